@@ -1,0 +1,4 @@
+pub mod Arms
+pub mod Cases
+pub mod Laws
+pub mod Answers

@@ -1,0 +1,99 @@
+-- Tightness: two results that a public function's promise allows are equal, and so is what each lent slice holds afterwards. Each law is over
+-- the function's own `Post`, which the toolchain makes of its clauses: `Post κs a r e` says that its promise allows the result r, and e at exit,
+-- for the arguments a.
+-- Assumes nothing.
+use mathlib.Core.Path.{_≡_, refl, sym, ap, _∙_}
+use denote.Ref.{now}
+use Rattle.wire.specs.Shown.{shownNumber, shownCount, shownWritten, shownCheck}
+use Rattle.wire.specs.declared.refusal.Refusal.{Refusal}
+use Rattle.wire.proofs.Tables.{same-answer}
+use Rattle.wire.proofs.Refusals.{number-injective}
+use Rattle.wire.proofs.Answers.{numberBack, number-again, countBack, count-again, writtenBack, written-again, checkBack, check-again}
+use Rattle.wire.proofs.refusal.refusal_number.Reads as refusal-number
+use Rattle.wire.proofs.number.is_short.Reads as is-short
+use Rattle.wire.proofs.number.u32_at.Reads as u32-at
+use Rattle.wire.proofs.number.u64_at.Reads as u64-at
+use Rattle.wire.proofs.number.read_u32.Reads as read-u32
+use Rattle.wire.proofs.number.read_u64.Reads as read-u64
+use Rattle.wire.proofs.count.read_count.Reads as read-count
+use Rattle.wire.proofs.count.shortest_len.Reads as shortest-len
+use Rattle.wire.proofs.count.write_count.Reads as write-count
+use Rattle.wire.proofs.word.is_element.Reads as is-element
+use Rattle.wire.proofs.word.word_at.Reads as word-at
+use Rattle.wire.proofs.word.check_word.Reads as check-word
+use Rattle.wire.proofs.word.read_word.Reads as read-word
+use Rattle.wire.proofs.word.word_order.Reads as word-order
+use Rattle.info.specs.Shown.{shownDecoded, shownEncoded, shownEntry}
+use Rattle.info.proofs.Answers.{decodedBack, decoded-again, encodedBack, encoded-again, entryBack, entry-again}
+use Rattle.info.proofs.decode_entry.Reads as decode-entry
+use Rattle.info.proofs.encode_entry.Reads as encode-entry
+use Rattle.info.proofs.read_entry.Reads as read-entry
+
+-- the results that a promise allows are one
+abbrev pub One : {K : Type 0} {A R E : K → Type 0} → ((κs : K) → A κs → R κs → E κs → Type 0) → Type 0
+One {K} {A} {R} {E} Post = (κs : K) (a : A κs) (r r′ : R κs) (e e′ : E κs) → Post κs a r e → Post κs a r′ e′ → r ≡ r′
+
+-- ---- wire
+
+pub refusal-number-one : One refusal-number.Post
+refusal-number-one κs a r r′ e e′ p p′ = p ∙ sym p′
+
+-- and the function's numbers tell refusals apart, as the definition's do
+pub refusal-number-tells : (κs : _) (a b : _) (r : _) (e e′ : _) → refusal-number.Post κs a r e → refusal-number.Post κs b r e′ → a .0 ≡ b .0
+refusal-number-tells κs a b r e e′ p p′ = number-injective (a .0) (b .0) (sym p ∙ p′)
+
+pub is-short-one : One is-short.Post
+is-short-one κs a r r′ e e′ p p′ = p ∙ sym p′
+
+pub u32-at-one : One u32-at.Post
+u32-at-one κs a r r′ e e′ p p′ = p ∙ sym p′
+
+pub u64-at-one : One u64-at.Post
+u64-at-one κs a r r′ e e′ p p′ = p ∙ sym p′
+
+pub read-u32-one : One read-u32.Post
+read-u32-one κs a r r′ e e′ p p′ = same-answer shownNumber numberBack number-again _ r r′ p p′
+
+pub read-u64-one : One read-u64.Post
+read-u64-one κs a r r′ e e′ p p′ = same-answer shownNumber numberBack number-again _ r r′ p p′
+
+pub read-count-one : One read-count.Post
+read-count-one κs a r r′ e e′ p p′ = same-answer shownCount countBack count-again _ r r′ p p′
+
+pub shortest-len-one : One shortest-len.Post
+shortest-len-one κs a r r′ e e′ p p′ = p ∙ sym p′
+
+pub write-count-one : One write-count.Post
+write-count-one κs a r r′ e e′ p p′ = same-answer shownWritten writtenBack written-again _ r r′ (p .0) (p′ .0)
+
+pub write-count-leaves : (κs : _) (a : _) (r r′ : _) (e e′ : _) → write-count.Post κs a r e → write-count.Post κs a r′ e′ → now (e .0) ≡ now (e′ .0)
+write-count-leaves κs a r r′ e e′ p p′ = p .1 ∙ sym (p′ .1)
+
+pub is-element-one : One is-element.Post
+is-element-one κs a r r′ e e′ p p′ = p ∙ sym p′
+
+pub word-at-one : One word-at.Post
+word-at-one κs a r r′ e e′ p p′ = p ∙ sym p′
+
+pub check-word-one : One check-word.Post
+check-word-one κs a r r′ e e′ p p′ = same-answer (λ x. shownCheck x _) checkBack (check-again _) _ r r′ p p′
+
+pub read-word-one : One read-word.Post
+read-word-one κs a r r′ e e′ p p′ =
+    let words : r .word ≡ r′ .word = p .1 ∙ sym (p′ .1) in
+    let answers : r .answer ≡ r′ .answer = same-answer (λ x. shownCheck x (r .word)) checkBack (check-again (r .word)) _ (r .answer) (r′ .answer) (p .0) (rw words (p′ .0)) in
+    λ i. record { answer = answers i; word = words i }
+
+pub word-order-one : One word-order.Post
+word-order-one κs a r r′ e e′ p p′ = p ∙ sym p′
+
+-- ---- info
+
+pub decode-entry-one : One decode-entry.Post
+decode-entry-one κs a r r′ e e′ p p′ = same-answer shownDecoded decodedBack decoded-again _ r r′ p p′
+
+pub encode-entry-one : One encode-entry.Post
+encode-entry-one κs a r r′ e e′ p p′ = same-answer shownEncoded encodedBack encoded-again _ r r′ p p′
+
+pub read-entry-one : One read-entry.Post
+read-entry-one κs a r r′ e e′ p p′ = same-answer shownEntry entryBack entry-again _ r r′ p p′

@@ -1,0 +1,14 @@
+pub mod Tables
+pub mod Stages
+pub mod Ladder
+pub mod Refusals
+pub mod Le
+pub mod Numbers
+pub mod Counts
+pub mod Forms
+pub mod CountLaws
+pub mod Words
+pub mod Answers
+pub mod Piece
+pub mod Leaves
+pub mod Staged

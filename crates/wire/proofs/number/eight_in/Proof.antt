@@ -1,0 +1,33 @@
+-- `wire::number::eight_in` meets its contract: four bytes, and the four after them.
+-- Assumes nothing.
+use native.Mathlib.Omega.{arith}
+use borrow.Author.Needs.{needs}
+use Rattle.wire.proofs.Le.{le-parts}
+use Rattle.wire.proofs.number.eight_in.Statement.{statement}
+use Rattle.wire.proofs.number.eight_in.Tie as tie
+use Rattle.wire.proofs.number.eight_in.Reads as reads
+use Rattle.wire.proofs.number.eight_in.Lts as lts
+use Rattle.wire.proofs.number.four_in.Reads as four-in-reads
+
+four-in-requires : tie.Need-four-in-requires
+four-in-requires c κs = search needs
+
+add-four-in : tie.Need-add-four-in
+add-four-in c = search needs
+
+four-in-requires-2 : tie.Need-four-in-requires-2
+four-in-requires-2 c κs = search needs
+
+mul-result : tie.Need-mul-result
+mul-result c = search needs
+
+add-result : tie.Need-add-result
+add-result c = search needs
+
+returns : tie.Need-returns
+returns c = let a = c .before .before .before .args in omega (arith, le-parts (a .s .now) (a .at) 4 4 (omega arith))
+
+pub eight-in-spec : {M : Type 1} → statement M
+eight-in-spec =
+    tie.close
+    (tie.spec four-in-requires add-four-in four-in-requires-2 mul-result add-result returns)

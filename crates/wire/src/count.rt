@@ -1,0 +1,131 @@
+// Counts in the vint64 form: read at any place, written in the shortest form.
+use crate::number::is_short;
+use crate::number::wide;
+use crate::refusal::Refusal;
+use crate::units::ByteOffset;
+use crate::units::Cursor;
+ghost use mathlib.Core.Path.{_≡_};
+ghost use Prim.Native.Nat.{_+_, _≤_};
+ghost use lib.ListN.{length};
+ghost use lib.Seq.{sets};
+ghost use Rattle.wire.specs.Le.{leAt, leBytes};
+ghost use Rattle.wire.specs.Counts.{countOutcome, shortestLen, Form, countForm, writeOutcome, withCount};
+ghost use Rattle.wire.specs.Shown.{shownCount, shownWritten};
+
+// A count as it stands in a file: what it says, and in how many bytes.
+pub struct Count {
+    pub value: u64,
+    pub len: usize,
+}
+
+// A count with the place after it, or why there is none.
+pub enum CountRead {
+    Whole(Count, Cursor),
+    Refused(Refusal, ByteOffset),
+}
+
+// The place after a count that was written, or why it was not.
+pub enum CountWritten {
+    Written(Cursor),
+    Refused(Refusal, ByteOffset),
+}
+
+// The n bytes from `at` as a number, lowest first. One function for every width up to 8.
+fn read_le(s: &[u8], at: usize, n: usize) -> u64
+    requires { ⌜ (n ≤ 8) × (at + n ≤ length (now s)) ⌝ }
+    ensures { λ r. ⌜ r ≡ leAt (now (s .entry)) at n ⌝ }
+{
+    let mut acc: u64 = 0;
+    let mut p = at + n;
+    while at < p {
+        p -= 1;
+        acc = acc * 256 + wide(s[p]);
+    }
+    acc
+}
+
+// The count at a place.
+pub fn read_count(s: &[u8], at: ByteOffset) -> CountRead
+    ensures { λ r. ⌜ shownCount r ≡ countOutcome (now (s .entry)) (at .0) ⌝ }
+{
+    let from = at.0;
+    if s.len() <= from {
+        return CountRead::Refused(Refusal::Short, at);
+    }
+    let len = u8::trailing_zeros(s[from]) as usize + 1;
+    if is_short(s, at, len) {
+        return CountRead::Refused(Refusal::Short, at);
+    }
+    let next = Cursor {
+        at: ByteOffset(from + len),
+    };
+    if len <= 8 {
+        let value = read_le(s, from, len) >> len;
+        return CountRead::Whole(Count { value, len }, next);
+    }
+    let value = read_le(s, from + 1, 8);
+    CountRead::Whole(Count { value, len }, next)
+}
+
+// The length of v's shortest form.
+pub fn shortest_len(v: u64) -> usize
+    ensures { λ r. ⌜ r ≡ shortestLen v ⌝ }
+{
+    let mut len: usize = 1;
+    let mut bound: u64 = 128;
+    while len < 9 {
+        if v < bound {
+            return len;
+        }
+        bound *= 128;
+        len += 1;
+    }
+    len
+}
+
+// Stores the n lowest bytes of x from `at` on, lowest first.
+fn write_le(out: &mut [u8], at: usize, n: usize, x: u64)
+    requires { ⌜ at + n ≤ length (now out) ⌝ }
+    ensures { λ _. ⌜ now (out .exit) ≡ sets (now (out .entry)) at (leBytes n x) ⌝ }
+{
+    let end = at + n;
+    let mut p = at;
+    let mut rest = x;
+    while p < end {
+        out[p] = (rest % 256) as u8;
+        rest /= 256;
+        p += 1;
+    }
+}
+
+// Stores the form of v in len bytes from `at` on.
+fn write_form(out: &mut [u8], at: usize, len: usize, v: u64)
+    requires { ⌜ Form len v × (at + len ≤ length (now out)) ⌝ }
+    ensures { λ _. ⌜ now (out .exit) ≡ sets (now (out .entry)) at (countForm len v) ⌝ }
+{
+    if len <= 8 {
+        write_le(out, at, len, (2 * v + 1) << (len - 1));
+    } else {
+        out[at] = 0;
+        write_le(out, at + 1, 8, v);
+    }
+}
+
+// Stores v in its shortest form from a place on, or refuses and changes nothing.
+pub fn write_count(out: &mut [u8], at: ByteOffset, v: u64) -> CountWritten
+    ensures { λ r. ⌜ shownWritten r ≡ writeOutcome (now (out .entry)) (at .0) v ⌝ }
+    ensures { λ _. ⌜ now (out .exit) ≡ withCount (now (out .entry)) (at .0) v ⌝ }
+{
+    let from = at.0;
+    let len = shortest_len(v);
+    if out.len() < len {
+        return CountWritten::Refused(Refusal::Room, at);
+    }
+    if out.len() - len < from {
+        return CountWritten::Refused(Refusal::Room, at);
+    }
+    write_form(out, from, len, v);
+    CountWritten::Written(Cursor {
+        at: ByteOffset(from + len),
+    })
+}
