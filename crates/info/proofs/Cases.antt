@@ -1,17 +1,17 @@
 -- The cases of the definitions, for the code's proofs.
 -- Assumes nothing.
 use mathlib.Core.Path.{_≡_}
-use mathlib.Core.Bool.{Bool, true, false}
+use mathlib.Core.Bool.{true, false}
 use mathlib.Core.List.{List}
 use Prim.Native.Nat.{ℕ, _+_, _-_, _^_, _≤_, _<_}
 use native.Mathlib.Omega.{arith}
 use borrow.Author.Tests.{lt-ltb, le-ltb}
 use lib.Dec.{ltb}
-use Rattle.wire.specs.Table.{Outcome, refused, accepted, pick, firstMet, At}
-use Rattle.wire.specs.Refusals.{SHORT, TAG, PAYLOAD}
+use Rattle.wire.specs.Table.{refused, accepted, firstMet}
+use Rattle.wire.specs.Refusals.{SHORT}
 use Rattle.wire.specs.Le.{leAt, isShort}
-use Rattle.wire.proofs.Tables.{accepted-none}
-use Rattle.info.specs.Entry.{entryOf, badTag, badPayload, decodeRules, decodeOutcome, entryRules, entryOutcome}
+use Rattle.wire.proofs.Tables.{accepted-none, replaced-accepted, replaced-refused}
+use Rattle.info.specs.Entry.{entryOf, decodeRules, decodeOutcome, entryRules, entryOutcome}
 use Rattle.info.specs.declared.MastNodeEntry.{MastNodeEntry}
 
 -- a payload of one number fits, or is too wide
@@ -27,18 +27,13 @@ module _ (s : List ℕ) (at : ℕ) where
   unfolding entryOutcome entryRules firstMet
   entry-short e = rw e
 
+  -- past SHORT its rules are those of the word, at the place
   pub entry-read : isShort s at 8 ≡ false → (e : MastNodeEntry) → decodeOutcome 0 (leAt s at 8) ≡ accepted e → entryOutcome s at ≡ accepted (record { value = e; next = at + 8 })
   unfolding entryOutcome entryRules decodeOutcome decodeRules firstMet
   entry-read q e said =
       let k = accepted-none (decodeRules 0 (leAt s at 8)) (entryOf (leAt s at 8)) e said in
-      rw (q, k .0 .0, k .0 .1 .0, k .1)
+      rw (q, k .1) (replaced-accepted at (decodeRules 0 (leAt s at 8)) (entryOf (leAt s at 8)) e (record { value = e; next = at + 8 }) said)
 
   pub entry-refused : isShort s at 8 ≡ false → (n z : ℕ) → decodeOutcome 0 (leAt s at 8) ≡ refused n z → entryOutcome s at ≡ refused n at
   unfolding entryOutcome entryRules decodeOutcome decodeRules firstMet
-  entry-refused q n z said = rw q (go (badTag (leAt s at 8)) (badPayload (leAt s at 8)) (entryOf (leAt s at 8)) said)
-    where
-      go : (t p : Bool) (x : MastNodeEntry) → _≡_ {A = Outcome MastNodeEntry} (pick t (refused TAG 0) (pick p (refused PAYLOAD 0) (accepted x))) (refused n z)
-          → _≡_ {A = Outcome (At MastNodeEntry)} (pick t (refused TAG at) (pick p (refused PAYLOAD at) (accepted (record { value = x; next = at + 8 })))) (refused n at)
-      go true p x k = let same : TAG ≡ n = cc in rw same
-      go false true x k = let same : PAYLOAD ≡ n = cc in rw same
-      go false false x k = cc
+  entry-refused q n z said = rw q (replaced-refused at (decodeRules 0 (leAt s at 8)) (entryOf (leAt s at 8)) _ n z said)

@@ -1,6 +1,6 @@
 -- The 8-byte node entry: the top 4 of 64 bits are the tag, the 60 below are the payload.
 use Prim.Native.Nat.{ℕ, _+_, _-_, _*_, _/_, _%_, _^_}
-use mathlib.Core.Bool.{Bool, false, _&&_, _||_}
+use mathlib.Core.Bool.{Bool, true, false, _&&_, _||_}
 use mathlib.Core.List.{List, [], _∷_}
 use lib.Dec.{ltb, leb}
 use lib.ListN.{getD}
@@ -57,6 +57,17 @@ entryRules s at = shortRule s at 8 ∷ decodeRules at (leAt s at 8)
 
 unfoldable pub entryOutcome : List ℕ → ℕ → Outcome (At MastNodeEntry)
 entryOutcome s at = firstMet (entryRules s at) (record { value = entryOf (leAt s at 8); next = at + 8 })
+
+abbrev pub isExternal : MastNodeEntry → Bool
+isExternal (Join left right) = false
+isExternal (Split then else) = false
+isExternal (Loop body) = false
+isExternal (Block offset) = false
+isExternal (Call callee) = false
+isExternal (SysCall callee) = false
+isExternal Dyn = false
+isExternal Dyncall = false
+isExternal External = true
 
 -- ---- writing
 

@@ -3,8 +3,10 @@
 use mathlib.Core.Path.{_≡_, refl, ap}
 use mathlib.Core.List.{List}
 use Prim.Native.Nat.{ℕ}
-use Rattle.wire.specs.Table.{Outcome, refused, accepted, At}
+use Rattle.wire.specs.Table.{Outcome, refused, accepted, _>>=_, At}
+use Rattle.wire.specs.Refusals.{numberOf}
 use Rattle.wire.specs.Shown.{shownNumber, shownCount, shownWritten, shownCheck}
+use Rattle.wire.specs.declared.refusal.Refusal.{Refusal}
 use Rattle.wire.specs.declared.units.ByteOffset.{ByteOffset}
 use Rattle.wire.specs.declared.units.Cursor.{Cursor}
 use Rattle.wire.specs.declared.number.NumberRead.{NumberRead}
@@ -16,6 +18,7 @@ use Rattle.wire.specs.declared.count.CountWritten.{CountWritten}
 use Rattle.wire.specs.declared.count.CountWritten.the-variants as written
 use Rattle.wire.specs.declared.word.WordCheck.{WordCheck}
 use Rattle.wire.specs.declared.word.WordCheck.the-variants as word
+use Rattle.wire.proofs.Stages.{stops, goes-on}
 use Rattle.wire.proofs.Refusals.{refusalOf, refusal-again}
 
 abbrev pub place : ℕ → ByteOffset
@@ -55,3 +58,12 @@ checkBack (accepted v) = word.Whole (cursor (v .next))
 pub check-again : (w : List ℕ) (r : WordCheck) → checkBack (shownCheck r w) ≡ r
 check-again w (word.Whole c) = refl
 check-again w (word.Refused why at) = ap (λ x. word.Refused x at) (refusal-again why)
+
+-- ---- for functions that run stages: an answer of `read_count` is a refusal, or what it holds is handed on
+
+module _ {B : Type 0} (r : CountRead) (m : Outcome (At Count)) (k : At Count → Outcome B) (said : shownCount r ≡ m) where
+  pub count-stops : (why : Refusal) (at : ByteOffset) → r ≡ count.Refused why at → refused (numberOf why) (at .0) ≡ (m >>= k)
+  count-stops why at e = stops _ m k _ _ said (ap shownCount e)
+
+  pub count-goes-on : (n : Count) (c : Cursor) (y : Outcome B) → r ≡ count.Whole n c → y ≡ k (record { value = n; next = c .at .0 }) → y ≡ (m >>= k)
+  count-goes-on n c y e q = goes-on _ m k _ y said (ap shownCount e) q

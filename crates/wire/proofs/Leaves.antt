@@ -4,11 +4,12 @@ use mathlib.Core.Path.{_≡_, refl, sym, ap, _∙_}
 use mathlib.Core.List.{List, [], _∷_, _++_}
 use mathlib.Core.Bool.{Bool, true, false, not, _||_}
 use Prim.Native.Nat.{ℕ, zero, suc, _+_, _*_, _^_, _≤_, _<_}
+use native.Mathlib.Decide.{ℕ-discrete}
 use native.Mathlib.Nat.{add-zero}
 use native.Mathlib.Omega.{arith}
 use lib.Dec.{ltb, eqb, lit<}
 use lib.ListN.{length, getD, take, drop, length-append, length-drop, take-append-drop}
-use lib.Seq.{slice, slice-empty, slice-cons, length-slice, take-at, drop-at, length-take-le}
+use lib.Seq.{slice, slice-empty, slice-cons, length-slice, take-at, drop-at, length-take-le, ext-getD, getD-drop, getD-take}
 use borrow.Author.Tests.{ltb-false, le-ltb, eqb-true, eq-eqb, not-false}
 use Rattle.wire.specs.Table.{rule, noneMet}
 use Rattle.wire.specs.Refusals.{SHORT}
@@ -139,29 +140,38 @@ or-false : (a b : Bool) → (a || b) ≡ false → (a ≡ false) × (b ≡ false
 or-false true b e = (cc, cc)
 or-false false b e = (refl, e)
 
-pub same-bytes : (s : List ℕ) (at : ℕ) (want : List ℕ) → at + length want ≤ length s → differs s at want ≡ false → slice at (at + length want) s ≡ want
-unfolding differs
-same-bytes s at [] h e = rw add-zero (slice-empty at s)
-same-bytes s at (w ∷ ws) h e =
-    let k = or-false (not (eqb (getD s at 0) w)) (differs s (at + 1) ws) e in
-    let f : getD s at 0 ≡ w = eqb-true (getD s at 0) w (not-false (eqb (getD s at 0) w) (k .0)) in
-    let g = same-bytes s (at + 1) ws (omega arith) (k .1) in
-    slice-first s at (length ws) h ∙ cc
+-- none of the n bytes differs: each is the wanted one, and conversely
+each-same : (s : List ℕ) (at : ℕ) (want : List ℕ) (n : ℕ) → differs s at want n ≡ false → (i : ℕ) → i < n → getD s (at + i) 0 ≡ getD want i 0
+each-same s at want zero e i h = absurd (omega arith)
+each-same s at want (suc n) e i h =
+    let k = or-false (differs s at want n) (not (eqb (getD s (at + n) 0) (getD want n 0))) e in
+    elim (ℕ-discrete i n) [
+      | yes d ↦ rw d (eqb-true (getD s (at + n) 0) (getD want n 0) (not-false (eqb (getD s (at + n) 0) (getD want n 0)) (k .1)))
+      | no d ↦ each-same s at want n (k .0) i (omega arith)
+    ]
 
-pub bytes-same : (s : List ℕ) (at : ℕ) (want : List ℕ) → at + length want ≤ length s → slice at (at + length want) s ≡ want → differs s at want ≡ false
-unfolding differs
-bytes-same s at [] h e = refl
-bytes-same s at (w ∷ ws) h e =
-    let g = slice-first s at (length ws) h in
-    let f : getD s at 0 ≡ w = cc in
-    let i : slice (at + 1) (at + 1 + length ws) s ≡ ws = cc in
-    rw (eq-eqb (getD s at 0) w f) (bytes-same s (at + 1) ws (omega arith) i)
+same-each : (s : List ℕ) (at : ℕ) (want : List ℕ) (n : ℕ) → ((i : ℕ) → i < n → getD s (at + i) 0 ≡ getD want i 0) → differs s at want n ≡ false
+same-each s at want zero h = refl
+same-each s at want (suc n) h =
+    rw (same-each s at want n (λ i l. h i (omega arith)), eq-eqb (getD s (at + n) 0) (getD want n 0) (h n (omega arith)))
+
+module _ (s : List ℕ) (at : ℕ) (want : List ℕ) (n : ℕ) (long : length want ≡ n) (whole : at + n ≤ length s) where
+  pub same-bytes : differs s at want n ≡ false → slice at (at + n) s ≡ want
+  same-bytes e =
+      let l : length (slice at (at + n) s) ≡ n = length-slice at (at + n) s whole ∙ omega arith in
+      ext-getD 0 (slice at (at + n) s) want (l ∙ sym long)
+      (λ i h. rw (getD-drop, getD-take (at + n) s (at + i) 0 (omega arith)) (each-same s at want n e i (omega arith)))
+
+  pub bytes-same : slice at (at + n) s ≡ want → differs s at want n ≡ false
+  bytes-same e =
+      same-each s at want n
+      (λ i h. sym (getD-take (at + n) s (at + i) 0 (omega arith)) ∙ sym (getD-drop at (take (at + n) s) i 0) ∙ ap (λ (l : List ℕ). getD l i 0) e)
 
 module _ (number n : ℕ) (want : List ℕ) (long : length want ≡ n) where
   abbrev pub given : Piece (Unit {0})
   given =
       record {
-        rules = λ s at. rule SHORT at (ltb (length s) (at + n)) ∷ rule number at (differs s at want) ∷ [];
+        rules = λ s at. rule SHORT at (ltb (length s) (at + n)) ∷ rule number at (differs s at want n) ∷ [];
         value = λ s at. tt;
         next = λ s at. at + n;
         form = λ v. want;
@@ -169,10 +179,11 @@ module _ (number n : ℕ) (want : List ℕ) (long : length want ≡ n) where
         trim = λ v. v;
         Tight = λ v. Unit {0};
         sound = λ s at bs h none.
-            let w : at + length want ≤ length s = rw long (ltb-false (length s) (at + n) (none .0)) in
-            (tt, record { whole = w; bytes = same-bytes s at want w (none .1 .0) }, rw long);
+            let w : at + n ≤ length s = ltb-false (length s) (at + n) (none .0) in
+            (tt, record { whole = rw long w; bytes = rw long (same-bytes s at want n long w (none .1 .0)) }, rw long);
         complete = λ s at v good st.
-            ((le-ltb (length s) (at + n) (omega (arith, st .whole)), (bytes-same s at want (st .whole) (st .bytes), tt)), refl, rw long);
+            let w : at + n ≤ length s = rw long at (st .whole) in
+            ((le-ltb (length s) (at + n) w, (bytes-same s at want n long w (rw long at (st .bytes)), tt)), refl, rw long);
         trimmed = λ v good. (tt, shorter-same want);
       }
 

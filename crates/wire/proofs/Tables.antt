@@ -88,6 +88,30 @@ module _ {A : Type 0} where
   pub refuses-exactly : (rs : List Rule) (u : A) (n p : ℕ) → (firstMet rs u ≡ refused n p) ↔ FirstMet rs n p
   refuses-exactly rs u n p = (first-rule rs u n p, rule-first rs u n p)
 
+-- ---- the same rules at another place
+
+abbrev pub replaced : ℕ → List Rule → List Rule
+replaced p [] = []
+replaced p (r ∷ rs) = record { met = r .met; number = r .number; place = p } ∷ replaced p rs
+
+module _ {A B : Type 0} (p : ℕ) where
+  pub replaced-accepted : (rs : List Rule) (u w : A) (v : B) → firstMet rs u ≡ accepted w → firstMet (replaced p rs) v ≡ accepted v
+  replaced-accepted rs u w v e = none-accepted (replaced p rs) v (unmet rs (accepted-none rs u w e .0))
+    where
+      unmet : (rs : List Rule) → noneMet rs → noneMet (replaced p rs)
+      unmet [] h = tt
+      unmet (r ∷ rs) h = (h .0, unmet rs (h .1))
+
+  pub replaced-refused : (rs : List Rule) (u : A) (v : B) (n q : ℕ) → firstMet rs u ≡ refused n q → firstMet (replaced p rs) v ≡ refused n p
+  unfolding firstMet
+  replaced-refused [] u v n q e = cc
+  replaced-refused (r ∷ rs) u v n q e = go (λ k. replaced-refused rs u v n q k) (r .met) e
+    where
+      go : (firstMet rs u ≡ refused n q → firstMet (replaced p rs) v ≡ refused n p) → (m : Bool)
+          → pick m (refused (r .number) (r .place)) (firstMet rs u) ≡ refused n q → pick m (refused (r .number) p) (firstMet (replaced p rs) v) ≡ refused n p
+      go later true k = let same : r .number ≡ n = cc in rw same
+      go later false k = later k
+
 -- ---- one answer
 
 -- where the answer can be had back from what is shown of it, two answers of which the same is shown are equal

@@ -21,7 +21,7 @@ abbrev pub Below : ℕ → List ℕ → Type 0
 Below m [] = Unit {0}
 Below m (x ∷ xs) = (x < m) × Below m xs
 
--- the bytes from a place on are not the wanted ones
-unfoldable pub differs : List ℕ → ℕ → List ℕ → Bool
-differs s at [] = false
-differs s at (w ∷ ws) = not (eqb (getD s at 0) w) || differs s (at + 1) ws
+-- one of the n bytes from a place on is not the wanted one
+abbrev pub differs : List ℕ → ℕ → List ℕ → ℕ → Bool
+differs s at want zero = false
+differs s at want (suc n) = differs s at want n || not (eqb (getD s (at + n) 0) (getD want n 0))

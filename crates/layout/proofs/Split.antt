@@ -1,0 +1,110 @@
+-- The scan's table says what its stages say, one after the other.
+-- Assumes nothing.
+use Prim.Native.Nat.{ℕ, _+_, _*_}
+use mathlib.Core.Path.{_≡_, refl}
+use mathlib.Core.List.{List, [], _∷_, _++_}
+use mathlib.Core.Bool.{Bool}
+use lib.ListN.{getD}
+use Rattle.wire.specs.Table.{Rule, firstMet, At}
+use Rattle.wire.specs.Counts.{counted, countRule, countOutcome}
+use Rattle.wire.specs.declared.count.Count.{Count}
+use Rattle.wire.proofs.Stages.{in-turn, in-the-end}
+use Rattle.layout.specs.Facts.{share}
+use Rattle.layout.specs.Scan.{scanRules, scanOutcome}
+use Rattle.layout.specs.Steps.{preambleRules, markRules, sizeRules, budgetRules, rootRules, sectionRules, entryRules, fixedOf, layoutOf, entriesOutcome, blocksOutcome, rootsOutcome, sizedOutcome, countsOutcome, stagesOutcome}
+use Rattle.layout.specs.declared.facts.FormatFacts.{FormatFacts}
+use Rattle.layout.specs.declared.facts.Bound.{Bound}
+use Rattle.layout.specs.declared.forest.ForestLayout.{ForestLayout}
+use Rattle.layout.specs.declared.scan.Head.{Head}
+use Rattle.layout.specs.declared.scan.Section.{Section}
+
+module _ (bound : Bound) (s : List ℕ) where
+  -- the count at a place, as a stage hands it on
+  abbrev countAt : ℕ → At Count
+  countAt at = record { value = counted s at; next = at + counted s at .len }
+
+  abbrev sectionOf : At Count → Section
+  sectionOf c = record { count = c .value .value; at = record { 0 = c .next } }
+
+  abbrev headOf : Bool → At Count → At Count → Head
+  headOf hashless i e = record { hashless = hashless; internal = i .value .value; external = e .value .value; middle = record { 0 = i .next }; next = record { 0 = e .next } }
+
+  -- the rules from a stage on
+  module _ (h : Head) where
+    abbrev entriesOn : Section → Section → List Rule
+    entriesOn roots blocks = entryRules (blocks .at .0 + blocks .count) (h .internal + h .external) (h .external) (h .middle .0) s
+
+    abbrev start : Section → ℕ
+    start roots = roots .at .0 + 4 * roots .count
+
+    abbrev blocksOn : Section → At Count → List Rule
+    blocksOn roots c = sectionRules bound (start roots) (c .value .value) (c .next) (fixedOf h) s ++ entriesOn roots (sectionOf c)
+
+    abbrev rootsOn : At Count → List Rule
+    rootsOn c =
+        rootRules bound (h .next .0) (c .value .value) (c .next) s
+        ++ ((countRule s (start (sectionOf c)) ∷ []) ++ blocksOn (sectionOf c) (countAt (start (sectionOf c))))
+
+    entries-split : (roots blocks : Section) → firstMet (entriesOn roots blocks) (layoutOf h roots blocks) ≡ entriesOutcome h roots blocks s
+    unfolding entriesOutcome
+    entries-split roots blocks = in-the-end (entriesOn roots blocks) tt (λ _. layoutOf h roots blocks)
+
+    blocks-split : (roots : Section)
+        → firstMet ((countRule s (start roots) ∷ []) ++ blocksOn roots (countAt (start roots))) (layoutOf h roots (sectionOf (countAt (start roots))))
+        ≡ blocksOutcome bound h roots s
+    unfolding blocksOutcome countOutcome
+    blocks-split roots =
+        in-turn (countRule s (start roots) ∷ []) (countAt (start roots)) (blocksOn roots) (λ c. layoutOf h roots (sectionOf c)) _
+        (λ c. in-turn (sectionRules bound (start roots) (c .value .value) (c .next) (fixedOf h) s) tt (λ _. entriesOn roots (sectionOf c)) (λ _. layoutOf h roots (sectionOf c)) _
+        (λ _. entries-split roots (sectionOf c)))
+
+    abbrev layoutFrom : At Count → ForestLayout
+    layoutFrom c = layoutOf h (sectionOf c) (sectionOf (countAt (start (sectionOf c))))
+
+    roots-split : firstMet ((countRule s (h .next .0) ∷ []) ++ rootsOn (countAt (h .next .0))) (layoutFrom (countAt (h .next .0))) ≡ rootsOutcome bound h s
+    unfolding rootsOutcome countOutcome
+    roots-split =
+        in-turn (countRule s (h .next .0) ∷ []) (countAt (h .next .0)) rootsOn layoutFrom _
+        (λ c. in-turn (rootRules bound (h .next .0) (c .value .value) (c .next) s) tt
+        (λ _. (countRule s (start (sectionOf c)) ∷ []) ++ blocksOn (sectionOf c) (countAt (start (sectionOf c)))) (λ _. layoutFrom c) _
+        (λ _. blocks-split (sectionOf c)))
+
+  module _ (f : FormatFacts) (hashless : Bool) where
+    abbrev sizedOn : Head → List Rule
+    sizedOn h =
+        sizeRules f (h .internal) (h .external)
+        ++ (budgetRules bound (h .hashless) (h .internal) (h .external) ++ ((countRule s (h .next .0) ∷ []) ++ rootsOn h (countAt (h .next .0))))
+
+    abbrev layoutAt : Head → ForestLayout
+    layoutAt h = layoutFrom h (countAt (h .next .0))
+
+    sized-split : (h : Head) → firstMet (sizedOn h) (layoutAt h) ≡ sizedOutcome f bound h s
+    unfolding sizedOutcome
+    sized-split h =
+        in-turn (sizeRules f (h .internal) (h .external)) tt
+        (λ _. budgetRules bound (h .hashless) (h .internal) (h .external) ++ ((countRule s (h .next .0) ∷ []) ++ rootsOn h (countAt (h .next .0)))) (λ _. layoutAt h) _
+        (λ _. in-turn (budgetRules bound (h .hashless) (h .internal) (h .external)) tt (λ _. (countRule s (h .next .0) ∷ []) ++ rootsOn h (countAt (h .next .0))) (λ _. layoutAt h) _
+        (λ _. roots-split h))
+
+    abbrev externalOn : At Count → List Rule
+    externalOn i = (countRule s (i .next) ∷ []) ++ sizedOn (headOf hashless i (countAt (i .next)))
+
+    abbrev layoutBy : At Count → ForestLayout
+    layoutBy i = layoutAt (headOf hashless i (countAt (i .next)))
+
+    counts-split : firstMet ((countRule s 8 ∷ []) ++ externalOn (countAt 8)) (layoutBy (countAt 8)) ≡ countsOutcome f bound hashless s
+    unfolding countsOutcome countOutcome
+    counts-split =
+        in-turn (countRule s 8 ∷ []) (countAt 8) externalOn layoutBy _
+        (λ i. in-turn (countRule s (i .next) ∷ []) (countAt (i .next)) (λ e. sizedOn (headOf hashless i e)) (λ e. layoutAt (headOf hashless i e)) _
+        (λ e. sized-split (headOf hashless i e)))
+
+pub split : (f : FormatFacts) (s : List ℕ) (allow : Bool) (bound : Bound) → scanOutcome f s allow bound ≡ stagesOutcome f allow bound s
+unfolding scanOutcome scanRules stagesOutcome preambleRules markRules sizeRules budgetRules rootRules sectionRules entryRules
+split f s allow bound =
+    let hashless = share (getD s 4 0) (f .hashless) in
+    let rest = (countRule s 8 ∷ []) ++ externalOn bound s f hashless (countAt bound s 8) in
+    let v = layoutBy bound s f hashless (countAt bound s 8) in
+    in-turn (preambleRules f s) tt (λ _. markRules f allow s ++ rest) (λ _. v) _
+    (λ _. in-turn (markRules f allow s) tt (λ _. rest) (λ _. v) _
+    (λ _. counts-split bound s f hashless))

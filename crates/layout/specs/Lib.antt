@@ -1,0 +1,6 @@
+pub mod Facts
+pub mod Rows
+pub mod Scan
+pub mod Steps
+pub mod Index
+pub mod Shown

@@ -1,0 +1,38 @@
+-- What each answer says, by number and values.
+use Prim.Native.Nat.{ℕ}
+use Rattle.wire.specs.Table.{Outcome, refused, accepted}
+use Rattle.wire.specs.Refusals.{numberOf}
+use Rattle.info.specs.declared.MastNodeEntry.{MastNodeEntry}
+use Rattle.layout.specs.declared.forest.ForestLayout.{ForestLayout}
+use Rattle.layout.specs.declared.scan.Scan.{Scan}
+use Rattle.layout.specs.declared.scan.Scan.the-variants as scan
+use Rattle.layout.specs.declared.scan.Check.{Check}
+use Rattle.layout.specs.declared.scan.Check.the-variants as check
+use Rattle.layout.specs.declared.index.RootRead.{RootRead}
+use Rattle.layout.specs.declared.index.RootRead.the-variants as root
+use Rattle.layout.specs.declared.rows.RowEntry.{RowEntry}
+use Rattle.layout.specs.declared.rows.RowEntry.the-variants as row
+use Rattle.layout.specs.declared.rows.EntryPass.{EntryPass}
+use Rattle.layout.specs.declared.rows.EntryPass.the-variants as pass
+
+abbrev pub shownRow : RowEntry → Outcome MastNodeEntry
+shownRow (row.Entry e) = accepted e
+shownRow (row.Refused why i) = refused (numberOf why) i
+
+abbrev pub shownPass : EntryPass → Outcome ℕ
+shownPass (pass.Clean externals) = accepted externals
+shownPass (pass.Refused why i) = refused (numberOf why) i
+
+abbrev pub shownRoot : RootRead → Outcome ℕ
+shownRoot (root.Root id) = accepted id
+shownRoot (root.Refused why i) = refused (numberOf why) i
+
+-- the layout itself
+abbrev pub shownScan : Scan → Outcome ForestLayout
+shownScan (scan.Accepted l) = accepted l
+shownScan (scan.Refused why at) = refused (numberOf why) (at .0)
+
+-- of a stage: it passes, or refuses
+abbrev pub shownCheck : Check → Outcome (Unit {0})
+shownCheck check.Pass = accepted tt
+shownCheck (check.Refused why at) = refused (numberOf why) (at .0)

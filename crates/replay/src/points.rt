@@ -1,0 +1,60 @@
+// The entry points by number: their names, their arguments, and a call of each.
+// A number is never given anew. A further entry point takes the next one, below 64: it is added here
+// and to the names in report.rt.
+use crate::counts;
+use crate::entries;
+use crate::numbers;
+use crate::row::Row;
+use crate::words;
+
+pub(crate) const LAST: u64 = 17;
+
+pub(crate) fn is_known(point: u64) -> bool {
+    if point < 1 {
+        return false;
+    }
+    point <= LAST
+}
+
+// How many arguments an entry point takes.
+pub(crate) fn arity(point: u64) -> usize {
+    match point {
+        // a place of the input bytes, and how many from there; a place, and what to write there
+        2 | 9 => 2,
+        // two words
+        14 => 8,
+        // a kind and two ids, 0 where the kind has none
+        16 => 3,
+        // a refusal, a number, an element or an entry's word; else a place of the input bytes
+        _ => 1,
+    }
+}
+
+// Whether an entry point writes to the bytes.
+pub(crate) fn is_writer(point: u64) -> bool {
+    point == 9
+}
+
+// What an entry point answers.
+pub(crate) fn run(point: u64, args: &[u64], s: &mut [u8]) -> Row {
+    match point {
+        1 => numbers::refusal_number_row(args),
+        2 => numbers::is_short_row(args, s),
+        3 => numbers::u32_at_row(args, s),
+        4 => numbers::u64_at_row(args, s),
+        5 => numbers::read_u32_row(args, s),
+        6 => numbers::read_u64_row(args, s),
+        7 => counts::read_count_row(args, s),
+        8 => counts::shortest_len_row(args),
+        9 => counts::write_count_row(args, s),
+        10 => words::is_element_row(args),
+        11 => words::word_at_row(args, s),
+        12 => words::check_word_row(args, s),
+        13 => words::read_word_row(args, s),
+        14 => words::word_order_row(args),
+        15 => entries::decode_entry_row(args),
+        16 => entries::encode_entry_row(args),
+        17 => entries::read_entry_row(args, s),
+        _ => Row::none(),
+    }
+}

@@ -1,0 +1,98 @@
+// What is printed, and the numbers of cases: at an entry point's number its own, and at 0 all.
+use crate::case::Verdict;
+use crate::points::LAST;
+use libc::STDOUT_FILENO;
+
+fn print(text: &[u8]) {
+    io::write_all(STDOUT_FILENO, text);
+}
+
+fn print_number(n: u64) {
+    io::print_decimal(STDOUT_FILENO, n);
+}
+
+fn print_name(point: u64) {
+    match point {
+        1 => print(b"refusal_number"),
+        2 => print(b"is_short"),
+        3 => print(b"u32_at"),
+        4 => print(b"u64_at"),
+        5 => print(b"read_u32"),
+        6 => print(b"read_u64"),
+        7 => print(b"read_count"),
+        8 => print(b"shortest_len"),
+        9 => print(b"write_count"),
+        10 => print(b"is_element"),
+        11 => print(b"word_at"),
+        12 => print(b"check_word"),
+        13 => print(b"read_word"),
+        14 => print(b"word_order"),
+        15 => print(b"decode_entry"),
+        16 => print(b"encode_entry"),
+        17 => print(b"read_entry"),
+        _ => print(b"total"),
+    }
+}
+
+fn print_line(line: u64) {
+    print(b"line ");
+    print_number(line);
+}
+
+// One more, which the lines of the longest text do not bring to the bound.
+fn bump(table: &mut [u64; 64], i: u64) {
+    if i < 64 {
+        let at = i as usize;
+        let n = table[at];
+        if n < 0x1000_0000 {
+            table[at] = n + 1;
+        }
+    }
+}
+
+pub(crate) fn count(verdict: Verdict, line: u64, agreed: &mut [u64; 64], seen: &mut [u64; 64]) {
+    bump(seen, 0);
+    match verdict {
+        Verdict::Agrees(point) => {
+            bump(seen, point);
+            bump(agreed, point);
+            bump(agreed, 0);
+        }
+        Verdict::Differs(point) => {
+            bump(seen, point);
+            print_line(line);
+            print(b": another answer by ");
+            print_name(point);
+            print(b"\n");
+        }
+        Verdict::Unknown(point) => {
+            print_line(line);
+            print(b": unknown entry point ");
+            print_number(point);
+            print(b"\n");
+        }
+        Verdict::Unreadable => {
+            print_line(line);
+            print(b": unreadable\n");
+        }
+    }
+}
+
+fn print_count(point: u64, agreed: u64, seen: u64) {
+    print_name(point);
+    print(b" ");
+    print_number(agreed);
+    print(b" of ");
+    print_number(seen);
+    print(b"\n");
+}
+
+pub(crate) fn report(agreed: &[u64; 64], seen: &[u64; 64]) {
+    let mut point: u64 = 1;
+    while point <= LAST {
+        let i = point as usize;
+        print_count(point, agreed[i], seen[i]);
+        point += 1;
+    }
+    print_count(0, agreed[0], seen[0]);
+}
