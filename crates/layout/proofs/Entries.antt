@@ -74,7 +74,7 @@ words-long s first (suc n) h =
 
 -- ---- row numbers as byte places
 
-abbrev atByte : ℕ → Outcome ℕ → Outcome ℕ
+abbrev pub atByte : ℕ → Outcome ℕ → Outcome ℕ
 atByte first (refused k i) = refused k (first + 8 * i)
 atByte first (accepted x) = accepted x
 

@@ -6,3 +6,5 @@ pub mod Entries
 pub mod Stages
 pub mod IndexLaws
 pub mod Split
+pub mod Answers
+pub mod Accepted

@@ -1,18 +1,26 @@
--- The worked examples of the format, P1 to P9, by one statement over one list: what the definitions answer is what the paper says.
+-- The worked examples of the format, P1 to P10, by one statement over one list: what the definitions answer is what the paper says.
 -- antt computes both sides.
 -- Assumes nothing.
 use mathlib.Core.Path.{_≡_, refl}
-use mathlib.Core.List.{List, [], _∷_, map}
+use mathlib.Core.Bool.{true}
+use mathlib.Core.List.{List, [], _∷_, _++_, map}
 use Prim.Native.Nat.{ℕ, _-_, _^_}
-use lib.Count.{trailingZeros}
+use lib.Count.{trailingZeros, ones, onesIn}
 use Rattle.wire.specs.Table.{Outcome, refused, accepted, firstMet, At}
 use Rattle.wire.specs.Refusals.{TAG, PAYLOAD}
 use Rattle.wire.specs.Le.{le, leBytes}
 use Rattle.wire.specs.Counts.{countLength, countValue, counted, countOutcome, leastFrom, shortestLen, countForm, countBytes}
+use Rattle.wire.specs.Rows.{numbersOf}
 use Rattle.wire.specs.declared.count.Count.{Count}
 use Rattle.info.specs.Entry.{entryOf, badTag, badPayload, decodeRules, decodeOutcome, encodeOutcome}
 use Rattle.info.specs.declared.MastNodeEntry.{MastNodeEntry}
 use Rattle.info.specs.declared.MastNodeEntry.the-variants.{Join, Dyn}
+use Rattle.layout.specs.Facts.{badFormat, overBudget}
+use Rattle.layout.specs.Scan.{wordsRules, externals, scanRules, scanOutcome}
+use Rattle.layout.specs.declared.facts.FormatFacts.{FormatFacts}
+use Rattle.layout.specs.declared.facts.Bound.the-variants.{None}
+use Rattle.layout.specs.declared.forest.HashSection.the-variants.{Absent}
+use Rattle.layout.specs.declared.forest.ForestLayout.{ForestLayout}
 
 -- what is asked, and what is answered
 pub data Question : Type 0 where
@@ -20,12 +28,14 @@ pub data Question : Type 0 where
   shortest : ℕ → Question
   decode : ℕ → Question
   encode : MastNodeEntry → Question
+  scan : List ℕ → Question
 
 pub data Answer : Type 0 where
   counts : Outcome (At Count) → Answer
   bytes : List ℕ → Answer
   entry : Outcome MastNodeEntry → Answer
   word : Outcome ℕ → Answer
+  layout : Outcome ForestLayout → Answer
 
 pub record Example : Type 0 where
   pub question : Question
@@ -39,12 +49,35 @@ q ⇒ a = record { question = q; answer = a }
 abbrev pub says : ℕ → ℕ → Answer
 says v n = counts (accepted (record { value = record { value = v; len = n }; next = n }))
 
+-- the stand-in facts of the small program: magic MAST, version 0 0 2, hashless mask 2, reserved mask 0xFC, at most 2 ^ 30 - 1 nodes
+abbrev pub stand-in : FormatFacts
+stand-in =
+    record {
+      magic = 0x4D ∷ 0x41 ∷ 0x53 ∷ 0x54 ∷ [];
+      version = 0x00 ∷ 0x00 ∷ 0x02 ∷ [];
+      hashless = 0x02;
+      reserved = 0xFC;
+      «max_nodes» = 2 ^ 30 - 1;
+    }
+
+-- P10: a hashless header, three counts, one root, the block length, a byte of block data, three entries, a digest, and an empty map
+abbrev pub hashlessFile : List ℕ
+hashlessFile =
+    (0x4D ∷ 0x41 ∷ 0x53 ∷ 0x54 ∷ 0x02 ∷ 0x00 ∷ 0x00 ∷ 0x02 ∷ [])
+    ++ ((0x05 ∷ 0x03 ∷ 0x03 ∷ [])
+    ++ ((0x02 ∷ 0x00 ∷ 0x00 ∷ 0x00 ∷ [])
+    ++ ((0x03 ∷ 0xAB ∷ [])
+    ++ ((leBytes 8 0x8000000000000000 ++ (leBytes 8 0x3000000000000000 ++ leBytes 8 1))
+    ++ (leBytes 32 0
+    ++ (0x01 ∷ []))))))
+
 -- what the definitions answer
 abbrev pub ask : Question → Answer
 ask (count bs) = counts (countOutcome bs 0)
 ask (shortest v) = bytes (countBytes v)
 ask (decode w) = entry (decodeOutcome 0 w)
 ask (encode e) = word (encodeOutcome e)
+ask (scan s) = layout (scanOutcome stand-in s true None)
 
 abbrev pub examples : List Example
 examples =
@@ -79,8 +112,25 @@ examples =
     ∷ (encode Dyn ⇒ word (accepted 0x6000000000000000))
     -- P9
     ∷ (decode 0x9000000000000000 ⇒ entry (refused TAG 0))
+    -- P10
+    ∷ (scan hashlessFile
+    ⇒ layout
+    (accepted
+    (record {
+      «node_count» = 3;
+      «internal_node_count» = record { 0 = 2 };
+      «external_node_count» = record { 0 = 1 };
+      «roots_count» = 1;
+      «roots_offset» = record { 0 = 11 };
+      «basic_block_offset» = record { 0 = 16 };
+      «basic_block_len» = 1;
+      «node_entry_offset» = record { 0 = 17 };
+      «external_digest_offset» = record { 0 = 41 };
+      «node_hash_offset» = Absent;
+      «advice_map_offset» = record { 0 = 73 };
+    })))
     ∷ []
 
 pub answered : map (λ (x : Example). ask (x .question)) examples ≡ map (λ (x : Example). x .answer) examples
-unfolding firstMet countOutcome counted countLength trailingZeros countValue le leBytes countForm shortestLen leastFrom decodeOutcome decodeRules entryOf badTag badPayload encodeOutcome
+unfolding firstMet countOutcome counted countLength trailingZeros countValue le leBytes countForm shortestLen leastFrom decodeOutcome decodeRules entryOf badTag badPayload encodeOutcome scanOutcome scanRules badFormat ones onesIn overBudget wordsRules externals numbersOf
 answered = refl

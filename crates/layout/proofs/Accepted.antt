@@ -1,0 +1,164 @@
+-- What is so of a file that the scan accepts: its sections lie end to end inside it, at the layout's offsets; its nodes are few; every entry
+-- reads, and as many are External as the layout says; and the index readers answer.
+-- Assumes nothing.
+use mathlib.Core.Path.{_≡_, refl, sym, ap, _∙_}
+use mathlib.Core.Bool.{Bool, true, false, not, _||_}
+use mathlib.Core.List.{List, [], _∷_}
+use mathlib.Core.Logic.{_⊎_, inl, inr}
+use Prim.Native.Nat.{ℕ, zero, suc, _+_, _-_, _*_, _^_, _≤_, _<_}
+use native.Mathlib.Decide.{ℕ-discrete}
+use native.Mathlib.Omega.{arith}
+use borrow.Author.Tests.{ltb-false, le-ltb, lt-leb, leb-true, leb-false, eqb-true, not-false}
+use lib.Count.{ones}
+use lib.Dec.{ltb, leb, eqb}
+use lib.ListN.{length}
+use Rattle.wire.specs.Table.{Rule, rule, Outcome, refused, accepted, pick, firstMet, _>>=_, noneMet, At}
+use Rattle.wire.specs.Refusals.{ROOT-ID}
+use Rattle.wire.specs.Le.{leAt, isShort}
+use Rattle.wire.specs.Counts.{counted, countRule, countOutcome}
+use Rattle.wire.specs.declared.count.Count.{Count}
+use Rattle.wire.proofs.Tables.{accepted-none, none-accepted, none-parts}
+use Rattle.wire.proofs.Stages.{both-taken}
+use Rattle.wire.proofs.CountLaws.{Reads}
+use Rattle.info.specs.declared.MastNodeEntry.{MastNodeEntry}
+use Rattle.layout.specs.Facts.{share, badFormat, hashBytes}
+use Rattle.layout.specs.Rows.{rowOver, rowOutcome, externalOne, entryPass}
+use Rattle.layout.specs.Scan.{wordsRules, externals, sectionAt, isHashless, internal, externalAt, external, nodes, rootsAt, roots as rootsOf, blocksAt, blocks as blocksOf, blockData, entriesAt, sectionBytes, words, scanRules, layoutShown}
+use Rattle.layout.specs.Index.{rootAt, rootOutcome, nodeOutcome}
+use Rattle.layout.specs.declared.facts.FormatFacts.{FormatFacts}
+use Rattle.layout.specs.declared.facts.Bound.{Bound}
+use Rattle.layout.specs.declared.forest.ForestLayout.{ForestLayout}
+use Rattle.layout.proofs.Entries.{atByte, words-pass}
+use Rattle.layout.proofs.IndexLaws.{node-row, root-high, root-found}
+
+-- ---- the statement
+
+-- the sections lie end to end: the header of 8 bytes, two counts, the roots' count, the roots, the block length, the block data, the entries,
+-- the external digests, the hashes unless there are none, and then the map, which begins inside the file or at its end
+pub record EndToEnd (f : FormatFacts) (s : List ℕ) (l : ForestLayout) : Type 0 where
+  -- the lengths of the four counts
+  pub first : ℕ
+  pub second : ℕ
+  pub third : ℕ
+  pub fourth : ℕ
+  pub internals : Reads s 8 first (l .«internal_node_count» .0)
+  pub externals : Reads s (8 + first) second (l .«external_node_count» .0)
+  pub rootCount : Reads s (8 + first + second) third (l .«roots_count»)
+  pub roots : l .«roots_offset» .0 ≡ 8 + first + second + third
+  pub blockLength : Reads s (l .«roots_offset» .0 + 4 * l .«roots_count») fourth (l .«basic_block_len»)
+  pub blocks : l .«basic_block_offset» .0 ≡ l .«roots_offset» .0 + 4 * l .«roots_count» + fourth
+  pub entries : l .«node_entry_offset» .0 ≡ l .«basic_block_offset» .0 + l .«basic_block_len»
+  pub digests : l .«external_digest_offset» .0 ≡ l .«node_entry_offset» .0 + 8 * l .«node_count»
+  pub hashes : l .«node_hash_offset» ≡ sectionAt (isHashless f s) (l .«external_digest_offset» .0 + 32 * l .«external_node_count» .0)
+  pub map : l .«advice_map_offset» .0 ≡ l .«external_digest_offset» .0 + 32 * l .«external_node_count» .0 + hashBytes (isHashless f s) (l .«internal_node_count» .0)
+  pub inside : l .«advice_map_offset» .0 ≤ length s
+
+pub record Counted (f : FormatFacts) (s : List ℕ) (l : ForestLayout) : Type 0 where
+  pub sum : l .«node_count» ≡ l .«internal_node_count» .0 + l .«external_node_count» .0
+  pub most : l .«node_count» ≤ f .«max_nodes»
+  pub limit : l .«node_count» ≤ 2 ^ 30
+  -- every entry reads, and so many are External
+  pub pass : entryPass (rowOutcome s (l .«node_entry_offset» .0)) (l .«node_count») ≡ accepted (l .«external_node_count» .0)
+
+-- ---- the proof
+
+-- a pass that is clean has an entry in each row
+pub each-row : (read : ℕ → Outcome MastNodeEntry) (n x i : ℕ) → entryPass read n ≡ accepted x → i < n → (e : MastNodeEntry) × (read i ≡ accepted e)
+unfolding entryPass
+each-row read zero x i q h = absurd (omega arith)
+each-row read (suc n) x i q h =
+    let all = both-taken (entryPass read n) (λ y. read n >>= (λ e. accepted (y + externalOne e))) x q in
+    let last = both-taken (read n) (λ e. accepted (all .0 + externalOne e)) x (all .2) in
+    elim (ℕ-discrete i n) [
+      | yes d ↦ (last .0, rw d (last .1))
+      | no d ↦ each-row read n (all .0) i (all .1) (omega arith)
+    ]
+
+or-right : (a b : Bool) → (a || b) ≡ false → b ≡ false
+or-right true b e = cc
+or-right false b e = e
+
+-- row numbers and byte places agree where nothing is refused
+at-byte : (first x : ℕ) (o : Outcome ℕ) → atByte first o ≡ accepted x → o ≡ accepted x
+at-byte first x (refused k i) e = cc
+at-byte first x (accepted y) e = e
+
+module _ (f : FormatFacts) (s : List ℕ) (allow : Bool) (bound : Bound) (unmet : noneMet (scanRules f s allow bound)) where
+  abbrev l : ForestLayout
+  l = layoutShown f s allow bound
+
+  count-read : (at : ℕ) → countRule s at .met ≡ false → Reads s at (counted s at .len) (counted s at .value)
+  unfolding countOutcome
+  count-read at e = none-accepted (countRule s at ∷ []) (record { value = counted s at; next = at + counted s at .len }) (e, tt)
+
+  sections : blockData f s + sectionBytes f s ≤ length s
+  unfolding scanRules
+  sections =
+      ltb-false (length s) (blockData f s + sectionBytes f s)
+      (unmet .1 .1 .1 .1 .1 .1 .1 .1 .1 .1 .1 .1 .1 .1 .1 .1 .1 .1 .1 .1 .1 .1 .0)
+
+  pub end-to-end : EndToEnd f s l
+  unfolding scanRules
+  end-to-end =
+      record {
+        first = internal f s .len;
+        second = external f s .len;
+        third = rootsOf f s .len;
+        fourth = blocksOf f s .len;
+        internals = count-read 8 (unmet .1 .1 .1 .1 .1 .1 .1 .1 .0);
+        externals = count-read (externalAt f s) (unmet .1 .1 .1 .1 .1 .1 .1 .1 .1 .0);
+        rootCount = count-read (rootsAt f s) (unmet .1 .1 .1 .1 .1 .1 .1 .1 .1 .1 .1 .1 .1 .1 .1 .0);
+        roots = refl;
+        blockLength = count-read (blocksAt f s) (unmet .1 .1 .1 .1 .1 .1 .1 .1 .1 .1 .1 .1 .1 .1 .1 .1 .1 .1 .1 .0);
+        blocks = refl;
+        entries = refl;
+        digests = refl;
+        hashes = refl;
+        map = refl;
+        inside = omega (arith, sections);
+      }
+
+  -- the rules of the words, and then the number of externals
+  clean : noneMet (wordsRules 8 (entriesAt f s) (words f s)) × (externals (words f s) ≡ external f s .value)
+  unfolding scanRules
+  clean =
+      let last = none-parts (wordsRules 8 (entriesAt f s) (words f s)) _ (unmet .1 .1 .1 .1 .1 .1 .1 .1 .1 .1 .1 .1 .1 .1 .1 .1 .1 .1 .1 .1 .1 .1 .1) in
+      (last .0, eqb-true (externals (words f s)) (external f s .value) (not-false (eqb (externals (words f s)) (external f s .value)) (last .1 .0)))
+
+  module _ (fits : length s < 2 ^ 64) where
+    pub all-counted : Counted f s l
+    unfolding scanRules badFormat
+    all-counted =
+        let most : nodes f s ≤ f .«max_nodes» = ltb-false (f .«max_nodes») (nodes f s) (unmet .1 .1 .1 .1 .1 .1 .1 .1 .1 .1 .1 .0) in
+        let limit : f .«max_nodes» ≤ 2 ^ 30 = ltb-false (2 ^ 30) (f .«max_nodes») (or-right (not (eqb (ones (f .hashless)) 1) || share (f .hashless) (f .reserved)) (ltb (2 ^ 30) (f .«max_nodes»)) (unmet .0)) in
+        let inside : entriesAt f s + 8 * nodes f s ≤ length s = omega (arith, sections) in
+        let said = none-accepted (wordsRules 8 (entriesAt f s) (words f s)) (externals (words f s)) (clean .0) in
+        record {
+          sum = refl;
+          most = most;
+          limit = omega arith;
+          pass = at-byte (entriesAt f s) (external f s .value) _ (sym (words-pass s (entriesAt f s) fits (nodes f s) inside) ∙ said ∙ ap accepted (clean .1));
+        }
+
+    -- the entry is answered at every index below the node count
+    pub node-answers : (i : ℕ) → i < l .«node_count» → (e : MastNodeEntry) × (nodeOutcome s l i ≡ accepted e)
+    node-answers i h =
+        let row = each-row (rowOutcome s (l .«node_entry_offset» .0)) (l .«node_count») (l .«external_node_count» .0) i (all-counted .pass) h in
+        (row .0, node-row s l i h ∙ row .1)
+
+    -- the root at every index below the number of roots, unless it names no node
+    pub root-answers : (i : ℕ) → i < l .«roots_count»
+        → (rootOutcome s l i ≡ accepted (leAt s (rootAt s l i) 4)) ⊎ (rootOutcome s l i ≡ refused ROOT-ID i)
+    unfolding scanRules
+    root-answers i h =
+        let rows : l .«roots_offset» .0 + 4 * l .«roots_count» ≤ length s =
+        ltb-false (length s) (l .«roots_offset» .0 + 4 * l .«roots_count») (unmet .1 .1 .1 .1 .1 .1 .1 .1 .1 .1 .1 .1 .1 .1 .1 .1 .1 .1 .0) in
+        let low : rowOver (l .«roots_offset» .0) 4 i ≡ false = le-ltb (2 ^ 64 - 1) (l .«roots_offset» .0 + 4 * i + 4) (omega arith) in
+        let whole : isShort s (rootAt s l i) 4 ≡ false = le-ltb (length s) (l .«roots_offset» .0 + 4 * i + 4) (omega arith) in
+        go low whole (leb (l .«node_count») (leAt s (rootAt s l i) 4)) refl
+      where
+        go : rowOver (l .«roots_offset» .0) 4 i ≡ false → isShort s (rootAt s l i) 4 ≡ false
+            → (t : Bool) → leb (l .«node_count») (leAt s (rootAt s l i) 4) ≡ t
+            → (rootOutcome s l i ≡ accepted (leAt s (rootAt s l i) 4)) ⊎ (rootOutcome s l i ≡ refused ROOT-ID i)
+        go low whole true e = inr (root-high s l i h low whole (leb-true (l .«node_count») (leAt s (rootAt s l i) 4) e))
+        go low whole false e = inl (root-found s l i h low whole (leb-false (l .«node_count») (leAt s (rootAt s l i) 4) e))
