@@ -2,15 +2,14 @@
 -- reads, and as many are External as the layout says; and the index readers answer.
 -- Assumes nothing.
 use mathlib.Core.Path.{_≡_, refl, sym, ap, _∙_}
-use mathlib.Core.Bool.{Bool, true, false, not, _||_}
+use mathlib.Core.Bool.{Bool, true, false}
 use mathlib.Core.List.{List, [], _∷_}
 use mathlib.Core.Logic.{_⊎_, inl, inr}
 use Prim.Native.Nat.{ℕ, zero, suc, _+_, _-_, _*_, _^_, _≤_, _<_}
 use native.Mathlib.Decide.{ℕ-discrete}
 use native.Mathlib.Omega.{arith}
-use borrow.Author.Tests.{ltb-false, le-ltb, lt-leb, leb-true, leb-false, eqb-true, not-false}
-use lib.Count.{ones}
-use lib.Dec.{ltb, leb, eqb}
+use borrow.Author.Tests.{le-ltb, leb-true, leb-false, eqb-true, not-false}
+use lib.Dec.{leb, eqb}
 use lib.ListN.{length}
 use Rattle.wire.specs.Table.{Rule, rule, Outcome, refused, accepted, pick, firstMet, _>>=_, noneMet, At}
 use Rattle.wire.specs.Refusals.{ROOT-ID}
@@ -21,14 +20,16 @@ use Rattle.wire.proofs.Tables.{accepted-none, none-accepted, none-parts}
 use Rattle.wire.proofs.Stages.{both-taken}
 use Rattle.wire.proofs.CountLaws.{Reads}
 use Rattle.info.specs.declared.MastNodeEntry.{MastNodeEntry}
-use Rattle.layout.specs.Facts.{share, badFormat, hashBytes}
+use Rattle.layout.specs.Facts.{hashBytes}
 use Rattle.layout.specs.Rows.{rowOver, rowOutcome, externalOne, entryPass}
-use Rattle.layout.specs.Scan.{wordsRules, externals, sectionAt, isHashless, internal, externalAt, external, nodes, rootsAt, roots as rootsOf, blocksAt, blocks as blocksOf, blockData, entriesAt, sectionBytes, words, scanRules, layoutShown}
+use Rattle.layout.specs.Scan.{wordsRules, externals, sectionAt, isHashless, internal, externalAt, external, nodes, rootsAt, roots as rootsOf, blocksAt, blocks as blocksOf, entriesAt, words, scanRules, layoutShown}
+use Rattle.layout.specs.Steps.{entryRules}
 use Rattle.layout.specs.Index.{rootAt, rootOutcome, nodeOutcome}
 use Rattle.layout.specs.declared.facts.FormatFacts.{FormatFacts}
 use Rattle.layout.specs.declared.facts.Bound.{Bound}
 use Rattle.layout.specs.declared.forest.ForestLayout.{ForestLayout}
 use Rattle.layout.proofs.Entries.{atByte, words-pass}
+use Rattle.layout.proofs.Split.{count-1, count-2, count-3, count-4, maximum, roots-there, sections-there, entries-clean}
 use Rattle.layout.proofs.IndexLaws.{node-row, root-high, root-found}
 
 -- ---- the statement
@@ -74,10 +75,6 @@ each-row read (suc n) x i q h =
       | no d ↦ each-row read n (all .0) i (all .1) (omega arith)
     ]
 
-or-right : (a b : Bool) → (a || b) ≡ false → b ≡ false
-or-right true b e = cc
-or-right false b e = e
-
 -- row numbers and byte places agree where nothing is refused
 at-byte : (first x : ℕ) (o : Outcome ℕ) → atByte first o ≡ accepted x → o ≡ accepted x
 at-byte first x (refused k i) e = cc
@@ -91,51 +88,42 @@ module _ (f : FormatFacts) (s : List ℕ) (allow : Bool) (bound : Bound) (unmet 
   unfolding countOutcome
   count-read at e = none-accepted (countRule s at ∷ []) (record { value = counted s at; next = at + counted s at .len }) (e, tt)
 
-  sections : blockData f s + sectionBytes f s ≤ length s
-  unfolding scanRules
-  sections =
-      ltb-false (length s) (blockData f s + sectionBytes f s)
-      (unmet .1 .1 .1 .1 .1 .1 .1 .1 .1 .1 .1 .1 .1 .1 .1 .1 .1 .1 .1 .1 .1 .1 .0)
-
   pub end-to-end : EndToEnd f s l
-  unfolding scanRules
   end-to-end =
       record {
         first = internal f s .len;
         second = external f s .len;
         third = rootsOf f s .len;
         fourth = blocksOf f s .len;
-        internals = count-read 8 (unmet .1 .1 .1 .1 .1 .1 .1 .1 .0);
-        externals = count-read (externalAt f s) (unmet .1 .1 .1 .1 .1 .1 .1 .1 .1 .0);
-        rootCount = count-read (rootsAt f s) (unmet .1 .1 .1 .1 .1 .1 .1 .1 .1 .1 .1 .1 .1 .1 .1 .0);
+        internals = count-read 8 (count-1 f s allow bound unmet);
+        externals = count-read (externalAt f s) (count-2 f s allow bound unmet);
+        rootCount = count-read (rootsAt f s) (count-3 f s allow bound unmet);
         roots = refl;
-        blockLength = count-read (blocksAt f s) (unmet .1 .1 .1 .1 .1 .1 .1 .1 .1 .1 .1 .1 .1 .1 .1 .1 .1 .1 .1 .0);
+        blockLength = count-read (blocksAt f s) (count-4 f s allow bound unmet);
         blocks = refl;
         entries = refl;
         digests = refl;
         hashes = refl;
         map = refl;
-        inside = omega (arith, sections);
+        inside = omega (arith, sections-there f s allow bound unmet);
       }
 
   -- the rules of the words, and then the number of externals
   clean : noneMet (wordsRules 8 (entriesAt f s) (words f s)) × (externals (words f s) ≡ external f s .value)
-  unfolding scanRules
+  unfolding entryRules
   clean =
-      let last = none-parts (wordsRules 8 (entriesAt f s) (words f s)) _ (unmet .1 .1 .1 .1 .1 .1 .1 .1 .1 .1 .1 .1 .1 .1 .1 .1 .1 .1 .1 .1 .1 .1 .1) in
+      let last = none-parts (wordsRules 8 (entriesAt f s) (words f s)) _ (entries-clean f s allow bound unmet) in
       (last .0, eqb-true (externals (words f s)) (external f s .value) (not-false (eqb (externals (words f s)) (external f s .value)) (last .1 .0)))
 
   module _ (fits : length s < 2 ^ 64) where
     pub all-counted : Counted f s l
-    unfolding scanRules badFormat
     all-counted =
-        let most : nodes f s ≤ f .«max_nodes» = ltb-false (f .«max_nodes») (nodes f s) (unmet .1 .1 .1 .1 .1 .1 .1 .1 .1 .1 .1 .0) in
-        let limit : f .«max_nodes» ≤ 2 ^ 30 = ltb-false (2 ^ 30) (f .«max_nodes») (or-right (not (eqb (ones (f .hashless)) 1) || share (f .hashless) (f .reserved)) (ltb (2 ^ 30) (f .«max_nodes»)) (unmet .0)) in
-        let inside : entriesAt f s + 8 * nodes f s ≤ length s = omega (arith, sections) in
+        let most = maximum f s allow bound unmet in
+        let inside : entriesAt f s + 8 * nodes f s ≤ length s = omega (arith, sections-there f s allow bound unmet) in
         let said = none-accepted (wordsRules 8 (entriesAt f s) (words f s)) (externals (words f s)) (clean .0) in
         record {
           sum = refl;
-          most = most;
+          most = most .1;
           limit = omega arith;
           pass = at-byte (entriesAt f s) (external f s .value) _ (sym (words-pass s (entriesAt f s) fits (nodes f s) inside) ∙ said ∙ ap accepted (clean .1));
         }
@@ -149,10 +137,8 @@ module _ (f : FormatFacts) (s : List ℕ) (allow : Bool) (bound : Bound) (unmet 
     -- the root at every index below the number of roots, unless it names no node
     pub root-answers : (i : ℕ) → i < l .«roots_count»
         → (rootOutcome s l i ≡ accepted (leAt s (rootAt s l i) 4)) ⊎ (rootOutcome s l i ≡ refused ROOT-ID i)
-    unfolding scanRules
     root-answers i h =
-        let rows : l .«roots_offset» .0 + 4 * l .«roots_count» ≤ length s =
-        ltb-false (length s) (l .«roots_offset» .0 + 4 * l .«roots_count») (unmet .1 .1 .1 .1 .1 .1 .1 .1 .1 .1 .1 .1 .1 .1 .1 .1 .1 .1 .0) in
+        let rows : l .«roots_offset» .0 + 4 * l .«roots_count» ≤ length s = roots-there f s allow bound unmet in
         let low : rowOver (l .«roots_offset» .0) 4 i ≡ false = le-ltb (2 ^ 64 - 1) (l .«roots_offset» .0 + 4 * i + 4) (omega arith) in
         let whole : isShort s (rootAt s l i) 4 ≡ false = le-ltb (length s) (l .«roots_offset» .0 + 4 * i + 4) (omega arith) in
         go low whole (leb (l .«node_count») (leAt s (rootAt s l i) 4)) refl

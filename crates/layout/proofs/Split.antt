@@ -1,16 +1,21 @@
--- The scan's table says what its stages say, one after the other.
+-- The scan's table says what its stages say, one after the other; and where no rule of it is met, none of any segment is.
 -- Assumes nothing.
-use Prim.Native.Nat.{ℕ, _+_, _*_}
+use Prim.Native.Nat.{ℕ, _+_, _*_, _^_, _≤_}
 use mathlib.Core.Path.{_≡_, refl}
 use mathlib.Core.List.{List, [], _∷_, _++_}
-use mathlib.Core.Bool.{Bool}
-use lib.ListN.{getD}
-use Rattle.wire.specs.Table.{Rule, firstMet, At}
+use mathlib.Core.Bool.{Bool, false, not, _||_}
+use borrow.Author.Tests.{ltb-false}
+use lib.Count.{ones}
+use lib.Dec.{ltb, eqb}
+use lib.ListN.{length, getD}
+use Rattle.wire.specs.Table.{Rule, firstMet, noneMet, At}
 use Rattle.wire.specs.Counts.{counted, countRule, countOutcome}
 use Rattle.wire.specs.declared.count.Count.{Count}
+use Rattle.wire.proofs.Tables.{none-parts}
 use Rattle.wire.proofs.Stages.{in-turn, in-the-end}
-use Rattle.layout.specs.Facts.{share}
+use Rattle.layout.specs.Facts.{share, badFormat}
 use Rattle.layout.specs.Scan.{scanRules, scanOutcome}
+use Rattle.layout.proofs.Tests.{or-right}
 use Rattle.layout.specs.Steps.{preambleRules, markRules, sizeRules, budgetRules, rootRules, sectionRules, entryRules, fixedOf, layoutOf, entriesOutcome, blocksOutcome, rootsOutcome, sizedOutcome, countsOutcome, stagesOutcome}
 use Rattle.layout.specs.declared.facts.FormatFacts.{FormatFacts}
 use Rattle.layout.specs.declared.facts.Bound.{Bound}
@@ -99,12 +104,85 @@ module _ (bound : Bound) (s : List ℕ) where
         (λ i. in-turn (countRule s (i .next) ∷ []) (countAt (i .next)) (λ e. sizedOn (headOf hashless i e)) (λ e. layoutAt (headOf hashless i e)) _
         (λ e. sized-split (headOf hashless i e)))
 
-pub split : (f : FormatFacts) (s : List ℕ) (allow : Bool) (bound : Bound) → scanOutcome f s allow bound ≡ stagesOutcome f allow bound s
-unfolding scanOutcome scanRules stagesOutcome preambleRules markRules sizeRules budgetRules rootRules sectionRules entryRules
-split f s allow bound =
-    let hashless = share (getD s 4 0) (f .hashless) in
-    let rest = (countRule s 8 ∷ []) ++ externalOn bound s f hashless (countAt bound s 8) in
-    let v = layoutBy bound s f hashless (countAt bound s 8) in
-    in-turn (preambleRules f s) tt (λ _. markRules f allow s ++ rest) (λ _. v) _
-    (λ _. in-turn (markRules f allow s) tt (λ _. rest) (λ _. v) _
-    (λ _. counts-split bound s f hashless))
+module _ (f : FormatFacts) (s : List ℕ) (allow : Bool) (bound : Bound) where
+  abbrev hashlessOf : Bool
+  hashlessOf = share (getD s 4 0) (f .hashless)
+
+  abbrev countsOn : List Rule
+  countsOn = (countRule s 8 ∷ []) ++ externalOn bound s f hashlessOf (countAt bound s 8)
+
+  -- the table is its segments, one after the other
+  pub segments : scanRules f s allow bound ≡ preambleRules f s ++ (markRules f allow s ++ countsOn)
+  unfolding scanRules preambleRules markRules sizeRules budgetRules rootRules sectionRules entryRules
+  segments = refl
+
+  pub split : scanOutcome f s allow bound ≡ stagesOutcome f allow bound s
+  unfolding scanOutcome stagesOutcome
+  split =
+      let v = layoutBy bound s f hashlessOf (countAt bound s 8) in
+      rw segments
+      (in-turn (preambleRules f s) tt (λ _. markRules f allow s ++ countsOn) (λ _. v) _
+      (λ _. in-turn (markRules f allow s) tt (λ _. countsOn) (λ _. v) _
+      (λ _. counts-split bound s f hashlessOf)))
+
+  -- where no rule of the table is met, no rule of any segment is
+  module _ (unmet : noneMet (scanRules f s allow bound)) where
+    abbrev head : Head
+    head = headOf bound s hashlessOf (countAt bound s 8) (countAt bound s (8 + counted s 8 .len))
+
+    abbrev roots : At Count
+    roots = countAt bound s (head .next .0)
+
+    abbrev blocks : At Count
+    blocks = countAt bound s (start bound s head (sectionOf bound s roots))
+
+    after-preamble : noneMet (preambleRules f s) × noneMet (markRules f allow s ++ countsOn)
+    after-preamble = none-parts (preambleRules f s) (markRules f allow s ++ countsOn) (rw segments at unmet)
+
+    rest : noneMet countsOn
+    rest = none-parts (markRules f allow s) countsOn (after-preamble .1) .1
+
+    after-sizes : noneMet (sizeRules f (head .internal) (head .external)) × noneMet (budgetRules bound hashlessOf (head .internal) (head .external) ++ ((countRule s (head .next .0) ∷ []) ++ rootsOn bound s head roots))
+    after-sizes = none-parts (sizeRules f (head .internal) (head .external)) _ (rest .1 .1)
+
+    after-budgets : noneMet ((countRule s (head .next .0) ∷ []) ++ rootsOn bound s head roots)
+    after-budgets = none-parts (budgetRules bound hashlessOf (head .internal) (head .external)) _ (after-sizes .1) .1
+
+    after-roots : noneMet (rootRules bound (head .next .0) (roots .value .value) (roots .next) s)
+        × noneMet ((countRule s (start bound s head (sectionOf bound s roots)) ∷ []) ++ blocksOn bound s head (sectionOf bound s roots) blocks)
+    after-roots = none-parts (rootRules bound (head .next .0) (roots .value .value) (roots .next) s) _ (after-budgets .1)
+
+    after-sections : noneMet (sectionRules bound (start bound s head (sectionOf bound s roots)) (blocks .value .value) (blocks .next) (fixedOf head) s)
+        × noneMet (entriesOn bound s head (sectionOf bound s roots) (sectionOf bound s blocks))
+    after-sections = none-parts (sectionRules bound (start bound s head (sectionOf bound s roots)) (blocks .value .value) (blocks .next) (fixedOf head) s) _ (after-roots .1 .1)
+
+    -- what each segment's unmet rules say
+    pub count-1 : countRule s 8 .met ≡ false
+    count-1 = rest .0
+
+    pub count-2 : countRule s (8 + counted s 8 .len) .met ≡ false
+    count-2 = rest .1 .0
+
+    pub count-3 : countRule s (head .next .0) .met ≡ false
+    count-3 = after-budgets .0
+
+    pub count-4 : countRule s (start bound s head (sectionOf bound s roots)) .met ≡ false
+    count-4 = after-roots .1 .0
+
+    pub maximum : (f .«max_nodes» ≤ 2 ^ 30) × (head .internal + head .external ≤ f .«max_nodes»)
+    unfolding preambleRules sizeRules badFormat
+    maximum = (
+      ltb-false (2 ^ 30) (f .«max_nodes») (or-right (not (eqb (ones (f .hashless)) 1) || share (f .hashless) (f .reserved)) (ltb (2 ^ 30) (f .«max_nodes»)) (after-preamble .0 .0)),
+      ltb-false (f .«max_nodes») (head .internal + head .external) (after-sizes .0 .1 .0),
+    )
+
+    pub roots-there : roots .next + 4 * roots .value .value ≤ length s
+    unfolding rootRules
+    roots-there = ltb-false (length s) (roots .next + 4 * roots .value .value) (after-roots .0 .1 .1 .0)
+
+    pub sections-there : blocks .next + (blocks .value .value + fixedOf head) ≤ length s
+    unfolding sectionRules
+    sections-there = ltb-false (length s) (blocks .next + (blocks .value .value + fixedOf head)) (after-sections .0 .1 .1 .0)
+
+    pub entries-clean : noneMet (entriesOn bound s head (sectionOf bound s roots) (sectionOf bound s blocks))
+    entries-clean = after-sections .1

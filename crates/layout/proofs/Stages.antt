@@ -3,7 +3,7 @@
 use Prim.Native.Nat.{ℕ, _+_, _*_, _^_, _≤_, _<_}
 use native.Mathlib.Omega.{arith}
 use mathlib.Core.Path.{_≡_, refl, sym, ap, _∙_}
-use mathlib.Core.Bool.{Bool, true, false, not, _||_}
+use mathlib.Core.Bool.{not, _||_}
 use mathlib.Core.List.{List}
 use lib.Count.{ones}
 use lib.Dec.{ltb, eqb}
@@ -17,6 +17,7 @@ use Rattle.wire.proofs.Tables.{accepted-none}
 use Rattle.wire.proofs.Stages.{stops, goes-on}
 use Rattle.wire.proofs.Answers.{count-stops, count-goes-on}
 use Rattle.layout.specs.Facts.{share, badFormat}
+use Rattle.layout.proofs.Tests.{or-right}
 use Rattle.layout.specs.Steps.{preambleRules, sizeRules, rootRules, sectionRules}
 use Rattle.layout.specs.Shown.{shownCheck}
 use Rattle.layout.specs.declared.facts.FormatFacts.{FormatFacts}
@@ -38,10 +39,6 @@ pub ruleset stages = (check-stops, check-passes, count-stops, count-goes-on)
 passed : (r : Check) (rs : List Rule) → r ≡ check.Pass → shownCheck r ≡ checked rs → noneMet rs
 passed r rs e said = accepted-none rs tt tt (sym said ∙ ap shownCheck e) .0
 
-or-false : (a b : Bool) → (a || b) ≡ false → b ≡ false
-or-false true b e = cc
-or-false false b e = e
-
 -- flags and version are whole, and the node maximum is at most 2 ^ 30
 module _ (r : Check) (f : FormatFacts) (s : List ℕ) (e : r ≡ check.Pass) (said : shownCheck r ≡ checked (preambleRules f s)) where
   pub marks-whole : 8 ≤ length s
@@ -53,7 +50,7 @@ module _ (r : Check) (f : FormatFacts) (s : List ℕ) (e : r ≡ check.Pass) (sa
 
   pub maximum : f .«max_nodes» ≤ 2 ^ 30
   unfolding preambleRules badFormat
-  maximum = ltb-false (2 ^ 30) (f .«max_nodes») (or-false (not (eqb (ones (f .hashless)) 1) || share (f .hashless) (f .reserved)) (ltb (2 ^ 30) (f .«max_nodes»)) (passed r (preambleRules f s) e said .0))
+  maximum = ltb-false (2 ^ 30) (f .«max_nodes») (or-right (not (eqb (ones (f .hashless)) 1) || share (f .hashless) (f .reserved)) (ltb (2 ^ 30) (f .«max_nodes»)) (passed r (preambleRules f s) e said .0))
 
 -- the nodes are few
 pub few-nodes : (r : Check) (f : FormatFacts) (i e : ℕ) → r ≡ check.Pass → shownCheck r ≡ checked (sizeRules f i e) → f .«max_nodes» ≤ 2 ^ 30 → i + e ≤ 2 ^ 30

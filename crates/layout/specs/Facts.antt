@@ -1,5 +1,5 @@
 -- Format facts and the allocation bound.
-use Prim.Native.Nat.{ℕ, _-_, _*_, _/_, _^_}
+use Prim.Native.Nat.{ℕ, _*_, _/_, _^_}
 use mathlib.Core.Bool.{Bool, true, false, not, _||_}
 use lib.Dec.{ltb, eqb}
 use lib.Count.{ones}
@@ -25,10 +25,6 @@ overBudget (Bytes n) size count = ltb (n / size) count
 -- what is left of the bound once the bytes up to a place are read: all of it
 abbrev pub left : Bound → ℕ → Bound
 left bound read = bound
-
--- above the numbers of 64 bits
-abbrev pub over : ℕ → Bool
-over n = ltb (2 ^ 64 - 1) n
 
 -- the bytes of the hashes: 32 an internal node, none where the file is hashless
 abbrev pub hashBytes : Bool → ℕ → ℕ

@@ -6,10 +6,9 @@ use mathlib.Core.List.{List, [], _∷_}
 use lib.Dec.{leb}
 use Rattle.wire.specs.Table.{Rule, rule, Outcome, accepted, pick, firstMet, _>>=_}
 use Rattle.wire.specs.Refusals.{SHORT, OVERFLOW}
-use Rattle.wire.specs.Le.{leAt, isShort}
+use Rattle.wire.specs.Le.{leAt, isShort, over}
 use Rattle.info.specs.Entry.{entryOf, isExternal, decodeRules}
 use Rattle.info.specs.declared.MastNodeEntry.{MastNodeEntry}
-use Rattle.layout.specs.Facts.{over}
 use Rattle.layout.specs.declared.rows.RowPlace.{RowPlace}
 use Rattle.layout.specs.declared.rows.RowPlace.the-variants.{At, Over}
 use Rattle.layout.specs.declared.rows.Survey.{Survey}

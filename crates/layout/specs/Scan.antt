@@ -8,12 +8,12 @@ use lib.ListN.{length, getD}
 use lib.Seq.{slice}
 use Rattle.wire.specs.Table.{Rule, rule, Outcome, pick, firstMet}
 use Rattle.wire.specs.Refusals.{SHORT, MAGIC, VERSION, FLAGS, HASHLESS, OVERFLOW, TOO-MANY, BUDGET, EXTERNALS, FORMAT}
-use Rattle.wire.specs.Le.{shortRule}
+use Rattle.wire.specs.Le.{shortRule, over}
 use Rattle.wire.specs.Counts.{counted, countRule}
 use Rattle.wire.specs.Rows.{numbersOf, differs}
 use Rattle.wire.specs.declared.count.Count.{Count}
 use Rattle.info.specs.Entry.{entryOf, isExternal, decodeRules}
-use Rattle.layout.specs.Facts.{share, badFormat, overBudget, left, over, hashBytes}
+use Rattle.layout.specs.Facts.{share, badFormat, overBudget, left, hashBytes}
 use Rattle.layout.specs.declared.facts.FormatFacts.{FormatFacts}
 use Rattle.layout.specs.declared.facts.Bound.{Bound}
 use Rattle.layout.specs.declared.forest.HashSection.{HashSection}

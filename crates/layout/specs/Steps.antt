@@ -8,10 +8,10 @@ use lib.ListN.{length, getD}
 use lib.Seq.{slice}
 use Rattle.wire.specs.Table.{Rule, rule, Outcome, accepted, checked, _>>=_}
 use Rattle.wire.specs.Refusals.{SHORT, MAGIC, VERSION, FLAGS, HASHLESS, OVERFLOW, TOO-MANY, BUDGET, EXTERNALS, FORMAT}
-use Rattle.wire.specs.Le.{shortRule}
+use Rattle.wire.specs.Le.{shortRule, over}
 use Rattle.wire.specs.Counts.{countOutcome}
 use Rattle.wire.specs.Rows.{numbersOf, differs}
-use Rattle.layout.specs.Facts.{share, badFormat, overBudget, left, over, hashBytes}
+use Rattle.layout.specs.Facts.{share, badFormat, overBudget, left, hashBytes}
 use Rattle.layout.specs.Scan.{wordsRules, externals, sectionAt}
 use Rattle.layout.specs.declared.facts.FormatFacts.{FormatFacts}
 use Rattle.layout.specs.declared.facts.Bound.{Bound}

@@ -1,5 +1,5 @@
 -- Little-endian numbers of any width: the value of a list of bytes, the bytes of a number, and a number read at a place.
-use Prim.Native.Nat.{ℕ, zero, suc, _+_, _*_, _/_, _%_, _<_}
+use Prim.Native.Nat.{ℕ, zero, suc, _+_, _-_, _*_, _/_, _%_, _^_, _<_}
 use mathlib.Core.Bool.{Bool}
 use mathlib.Core.List.{List, [], _∷_}
 use lib.Dec.{ltb}
@@ -25,6 +25,10 @@ leAt s at n = le (slice at (at + n) s)
 unfoldable pub leBytes : ℕ → ℕ → List ℕ
 leBytes zero x = []
 leBytes (suc n) x = (x % 256) ∷ leBytes n (x / 256)
+
+-- above the numbers of 64 bits
+abbrev pub over : ℕ → Bool
+over n = ltb (2 ^ 64 - 1) n
 
 -- n bytes at a place are not all there
 abbrev pub isShort : List ℕ → ℕ → ℕ → Bool

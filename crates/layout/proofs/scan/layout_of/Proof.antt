@@ -18,4 +18,4 @@ layout-of-spec =
     (λ c κs. search needs)
     (λ c. search needs)
     (λ c κs. search needs)
-    (λ c. rw (c .before .before .hash-section .ensures, c .before .before .before .hash-bytes .ensures .0)))
+    (λ c. simp (c .before .before .hash-section .ensures, c .before .before .before .hash-bytes .ensures .0)))
