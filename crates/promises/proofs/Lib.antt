@@ -1,3 +1,4 @@
 pub mod Examples
 pub mod Tight
 pub mod Scan
+pub mod Advice

@@ -38,6 +38,11 @@ use Rattle.layout.proofs.rows.read_entries.Reads as read-entries
 use Rattle.layout.proofs.scan.scan_layout.Reads as scan-layout
 use Rattle.layout.proofs.index.read_procedure_root_at.Reads as read-procedure-root-at
 use Rattle.layout.proofs.index.read_node_entry_at.Reads as read-node-entry-at
+use Rattle.advice.specs.Shown.{shownWalk, shownLookup}
+use Rattle.advice.proofs.Answers.{walkBack, walk-again, lookupBack, lookup-again}
+use Rattle.advice.proofs.walk.walk_map.Reads as walk-map
+use Rattle.advice.proofs.lookup.lookup.Reads as lookup
+use Rattle.advice.proofs.lookup.values.Reads as values
 
 -- the results that a promise allows are one
 abbrev pub One : {K : Type 0} {A R E : K → Type 0} → ((κs : K) → A κs → R κs → E κs → Type 0) → Type 0
@@ -133,3 +138,18 @@ read-procedure-root-at-one κs a r r′ e e′ p p′ = same-answer shownRoot ro
 
 pub read-node-entry-at-one : One read-node-entry-at.Post
 read-node-entry-at-one κs a r r′ e e′ p p′ = same-answer shownRow rowBack row-again _ r r′ p p′
+
+-- ---- advice
+
+pub walk-map-one : One walk-map.Post
+walk-map-one κs a r r′ e e′ p p′ = same-answer shownWalk walkBack walk-again _ r r′ (p .0) (p′ .0)
+
+pub walk-map-leaves : (κs : _) (a : _) (r r′ : _) (e e′ : _) → walk-map.Post κs a r e → walk-map.Post κs a r′ e′ → now (e .1 .1 .0) ≡ now (e′ .1 .1 .0)
+walk-map-leaves κs a r r′ e e′ p p′ = p .1 ∙ sym (p′ .1)
+
+pub lookup-one : One lookup.Post
+lookup-one κs a r r′ e e′ p p′ = same-answer shownLookup lookupBack lookup-again _ r r′ p p′
+
+-- the part's contents; where in memory an empty part starts is not promised
+pub values-one : (κs : _) (a : _) (r r′ : _) (e e′ : _) → values.Post κs a r e → values.Post κs a r′ e′ → now r ≡ now r′
+values-one κs a r r′ e e′ p p′ = p ∙ sym p′

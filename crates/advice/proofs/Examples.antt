@@ -1,0 +1,113 @@
+-- Small maps, by one statement over one list: what the definitions answer is what the paper says of them. antt computes both sides.
+-- Assumes nothing.
+use mathlib.Core.Path.{_≡_, refl}
+use mathlib.Core.List.{List, [], _∷_, _++_, map}
+use Prim.Native.Nat.{ℕ, _+_, _-_, _*_, _^_}
+use lib.Count.{trailingZeros}
+use lib.ListN.{length}
+use Rattle.wire.specs.Table.{Outcome, refused, accepted, firstMet, _>>=_}
+use Rattle.wire.specs.Refusals.{SHORT, OVERFLOW, ELEMENT, DUPLICATE, ROOM}
+use Rattle.wire.specs.Le.{le, leBytes, numberAt}
+use Rattle.wire.specs.Rows.{rows, numbersOf}
+use Rattle.wire.specs.Counts.{countLength, countValue, counted}
+use Rattle.wire.specs.Words.{modulus, isElement, notElements, fourAt, wordAt, wordOrder}
+use Rattle.advice.specs.Sorted.{insert, sorted}
+use Rattle.advice.specs.Keys.{sameKey, seenKey, keyOrder, keyLess}
+use Rattle.advice.specs.Walk.{walkRules, walkEnd, keyOffsets, Walked, mapRules, walkOutcome, keyTable}
+use Rattle.advice.specs.Lookup.{halving, Looked, found, absent, elementRules, foundRules, foundOutcome, lookupOutcome, valuesPart}
+
+-- ---- maps, by hand
+
+-- the count v below 128, in one byte; a key whose first element is k, and whose others are 0
+abbrev small : ℕ → ℕ
+small v = 2 * v + 1
+
+abbrev word : ℕ → List ℕ
+word k = k ∷ 0 ∷ 0 ∷ 0 ∷ []
+
+-- an entry: its key, its length in one byte, its values
+abbrev entry : ℕ → ℕ → List ℕ → List ℕ
+entry k len values = rows 8 (word k) ++ (small len ∷ rows 8 values)
+
+-- two entries, at 1 and 42, the higher key first; the map ends at 75
+abbrev two : List ℕ
+two = small 2 ∷ entry 5 1 (7 ∷ []) ++ entry 3 0 []
+
+-- the same key twice; then with the second one's value missing; then with a third entry that is cut off
+abbrev twice : List ℕ
+twice = small 2 ∷ entry 5 1 (7 ∷ []) ++ entry 5 0 []
+
+abbrev twiceShort : List ℕ
+twiceShort = small 2 ∷ entry 5 1 (7 ∷ []) ++ entry 5 1 []
+
+abbrev twiceMore : List ℕ
+twiceMore = small 3 ∷ entry 5 1 (7 ∷ []) ++ entry 5 0 []
+
+-- one entry whose second value is no element
+abbrev noElement : List ℕ
+noElement = small 1 ∷ entry 5 2 (1 ∷ modulus ∷ [])
+
+-- ---- what is asked, and what is answered
+
+pub data Question : Type 0 where
+  walk : List ℕ → ℕ → List ℕ → Question
+  look : List ℕ → List ℕ → ℕ → List ℕ → Question
+
+pub data Answer : Type 0 where
+  walked : Outcome Walked → List ℕ → Answer
+  looked : Outcome Looked → List ℕ → Answer
+
+pub record Example : Type 0 where
+  pub question : Question
+  pub answer : Answer
+
+infix 5 _⇒_
+abbrev pub _⇒_ : Question → Answer → Example
+q ⇒ a = record { question = q; answer = a }
+
+abbrev pub ask : Question → Answer
+ask (walk s at t) = walked (walkOutcome (length t) s at) (keyTable s at t)
+ask (look s t n key) = looked (lookupOutcome s t n key) (valuesPart s (lookupOutcome s t n key))
+
+abbrev pub walks : ℕ → ℕ → List ℕ → Answer
+walks n end t = walked (accepted (record { entries = n; end = end })) t
+
+abbrev pub examples : List Example
+examples =
+    -- the walk: an empty map; nothing there; far beyond
+    (walk (small 0 ∷ []) 0 (9 ∷ []) ⇒ walks 0 1 (9 ∷ []))
+    ∷ (walk (small 0 ∷ []) 1 (9 ∷ []) ⇒ walked (refused SHORT 1) (0 ∷ []))
+    ∷ (walk (small 0 ∷ []) (2 ^ 64 - 1) (9 ∷ []) ⇒ walked (refused SHORT (2 ^ 64 - 1)) (0 ∷ []))
+    -- keys rise in the table, and the rest stays
+    ∷ (walk two 0 (9 ∷ 9 ∷ 9 ∷ []) ⇒ walks 2 75 (42 ∷ 1 ∷ 9 ∷ []))
+    -- ROOM at the key, even where no byte is left
+    ∷ (walk two 0 (9 ∷ []) ⇒ walked (refused ROOM 42) (0 ∷ []))
+    ∷ (walk (small 1 ∷ []) 0 [] ⇒ walked (refused ROOM 1) [])
+    -- the key: SHORT for all 32 bytes, then ELEMENT
+    ∷ (walk (small 1 ∷ rows 8 (modulus ∷ 0 ∷ 0 ∷ [])) 0 (9 ∷ []) ⇒ walked (refused SHORT 1) (0 ∷ []))
+    ∷ (walk (small 1 ∷ rows 8 (word modulus)) 0 (9 ∷ []) ⇒ walked (refused ELEMENT 1) (0 ∷ []))
+    -- the length: SHORT, OVERFLOW at 2^61; the values: SHORT
+    ∷ (walk (small 1 ∷ rows 8 (word 5)) 0 (9 ∷ []) ⇒ walked (refused SHORT 33) (0 ∷ []))
+    ∷ (walk (small 1 ∷ rows 8 (word 5) ++ (0 ∷ leBytes 8 (2 ^ 61))) 0 (9 ∷ []) ⇒ walked (refused OVERFLOW 33) (0 ∷ []))
+    ∷ (walk (small 1 ∷ rows 8 (word 5) ++ (0 ∷ leBytes 8 (2 ^ 61 - 1))) 0 (9 ∷ []) ⇒ walked (refused SHORT 42) (0 ∷ []))
+    -- DUPLICATE after the entry's values, and before the next entry
+    ∷ (walk twice 0 (9 ∷ 9 ∷ []) ⇒ walked (refused DUPLICATE 42) (0 ∷ 0 ∷ []))
+    ∷ (walk twiceShort 0 (9 ∷ 9 ∷ []) ⇒ walked (refused SHORT 75) (0 ∷ 0 ∷ []))
+    ∷ (walk twiceMore 0 (9 ∷ 9 ∷ []) ⇒ walked (refused DUPLICATE 42) (0 ∷ 0 ∷ []))
+    -- values are not judged by the walk
+    ∷ (walk noElement 0 (9 ∷ []) ⇒ walks 1 50 (1 ∷ []))
+    -- the lookup: the higher key at once, the lower one after it, and none between, above or among none
+    ∷ (look two (42 ∷ 1 ∷ []) 2 (word 5) ⇒ looked (accepted (found 34 1 1)) (leBytes 8 7))
+    ∷ (look two (42 ∷ 1 ∷ []) 2 (word 3) ⇒ looked (accepted (found 75 0 2)) [])
+    ∷ (look two (42 ∷ 1 ∷ []) 2 (word 4) ⇒ looked (accepted (absent 2)) [])
+    ∷ (look two (42 ∷ 1 ∷ []) 2 (word 6) ⇒ looked (accepted (absent 1)) [])
+    ∷ (look two (42 ∷ 1 ∷ []) 0 (word 5) ⇒ looked (accepted (absent 0)) [])
+    -- ROOM [n]; a compared key that is not all in the file; a value that is no element
+    ∷ (look two (42 ∷ 1 ∷ []) 3 (word 5) ⇒ looked (refused ROOM 3) [])
+    ∷ (look two (44 ∷ []) 1 (word 5) ⇒ looked (refused SHORT 44) [])
+    ∷ (look noElement (1 ∷ []) 1 (word 5) ⇒ looked (refused ELEMENT 42) [])
+    ∷ []
+
+pub answered : map (λ (x : Example). ask (x .question)) examples ≡ map (λ (x : Example). x .answer) examples
+unfolding firstMet _>>=_ le leBytes rows numbersOf numberAt countLength trailingZeros countValue counted isElement notElements fourAt wordAt wordOrder insert sorted sameKey seenKey keyOrder keyLess walkRules walkEnd keyOffsets mapRules walkOutcome keyTable halving elementRules foundRules foundOutcome lookupOutcome
+answered = refl

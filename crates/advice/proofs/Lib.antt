@@ -1,0 +1,11 @@
+pub mod Sorted
+pub mod Heap
+pub mod Keys
+pub mod Duplicates
+pub mod Entries
+pub mod Halving
+pub mod Accepts
+pub mod Risen
+pub mod Answers
+pub mod Pieces
+pub mod Examples

@@ -1,0 +1,88 @@
+-- What the private stages of walk and lookup answer: segments of the tables. No public promise cites this file.
+use Prim.Native.Nat.{ℕ, _+_, _*_, _≤_}
+use mathlib.Core.Path.{_≡_}
+use mathlib.Core.List.{List, [], _∷_, _++_}
+use lib.ListN.{length, drop}
+use Rattle.wire.specs.Table.{Rule, rule, Outcome, refused, accepted, firstMet, checked, At}
+use Rattle.wire.specs.Refusals.{OVERFLOW, DUPLICATE, numberOf}
+use Rattle.wire.specs.Le.{shortRule, over}
+use Rattle.wire.specs.Counts.{counted, countRule}
+use Rattle.wire.specs.Words.{wordRules}
+use Rattle.advice.specs.Walk.{nextEntry, walkRules, walkEnd, keyOffsets, Walked, tableOf}
+use Rattle.advice.specs.Lookup.{Halved, met, missing, elementRules}
+use Rattle.advice.specs.Sort.{firstDuplicate}
+use Rattle.advice.specs.declared.sort.Duplicate.{Duplicate}
+use Rattle.advice.specs.declared.sort.Duplicate.the-variants as repeat
+use Rattle.advice.specs.declared.walk.Stop.{Stop}
+use Rattle.advice.specs.declared.walk.Stop.the-variants as stop
+use Rattle.advice.specs.declared.walk.Filled.{Filled}
+use Rattle.advice.specs.declared.walk.ValuesRead.{ValuesRead}
+use Rattle.advice.specs.declared.walk.ValuesRead.the-variants as values
+use Rattle.advice.specs.declared.walk.EntryRead.{EntryRead}
+use Rattle.advice.specs.declared.walk.EntryRead.the-variants as entry
+use Rattle.advice.specs.declared.lookup.Probe.{Probe}
+use Rattle.advice.specs.declared.lookup.Probe.the-variants as probe
+use Rattle.advice.specs.declared.lookup.Elements.{Elements}
+use Rattle.advice.specs.declared.lookup.Elements.the-variants as elements
+
+-- the length at a place and the values after it: how many, and where they start
+unfoldable pub valuesRules : List ℕ → ℕ → List Rule
+valuesRules s at =
+    countRule s at
+    ∷ rule OVERFLOW at (over (8 * counted s at .value))
+    ∷ shortRule s (at + counted s at .len) (8 * counted s at .value)
+    ∷ []
+
+unfoldable pub valuesOutcome : List ℕ → ℕ → Outcome (At ℕ)
+valuesOutcome s at = firstMet (valuesRules s at) (record { value = counted s at .value; next = at + counted s at .len })
+
+-- an entry, without ROOM and DUPLICATE: where the next one starts
+unfoldable pub entryRules : List ℕ → ℕ → List Rule
+entryRules s at = wordRules s at ++ valuesRules s (at + 32)
+
+unfoldable pub entryOutcome : List ℕ → ℕ → Outcome ℕ
+entryOutcome s at = firstMet (entryRules s at) (nextEntry s at)
+
+-- n entries from a place on, and the table after them
+unfoldable pub entriesOutcome : ℕ → List ℕ → ℕ → ℕ → Outcome Walked
+entriesOutcome places s at n = firstMet (walkRules places s at n []) (record { entries = n; end = walkEnd s at n })
+
+unfoldable pub entriesTable : List ℕ → ℕ → ℕ → List ℕ → List ℕ
+entriesTable s at n table = tableOf s at table (entriesOutcome (length table) s at n)
+
+-- a duplicate among the entries that were read comes first
+abbrev pub unlessRepeat : {A : Type 0} → Duplicate → Outcome A → Outcome A
+unlessRepeat (repeat.At x) o = refused DUPLICATE x
+unlessRepeat repeat.Nothing o = o
+
+abbrev pub stopShown : ℕ → Stop → Outcome Walked
+stopShown n (stop.End c) = accepted (record { entries = n; end = c .at .0 })
+stopShown n (stop.Refused why at) = refused (numberOf why) (at .0)
+
+-- what `fill` leaves: the first keys' offsets in the table, and what is still to be said once they are settled
+pub record FilledTo (s : List ℕ) (at n : ℕ) (t₀ t : List ℕ) (r : Filled) : Type 0 where
+  pub within : r .n ≤ length t₀
+  pub table : t ≡ keyOffsets s at (r .n) ++ drop (r .n) t₀
+  pub said : entriesOutcome (length t₀) s at n ≡ unlessRepeat (firstDuplicate s (keyOffsets s at (r .n))) (stopShown (r .n) (r .stop))
+
+abbrev pub elementsOutcome : List ℕ → ℕ → ℕ → Outcome (Unit {0})
+elementsOutcome s at n = checked (elementRules s at n)
+
+-- ---- what the stages' answers say
+
+abbrev pub shownValues : ValuesRead → Outcome (At ℕ)
+shownValues (values.Whole at n) = accepted (record { value = n; next = at .0 })
+shownValues (values.Refused why at) = refused (numberOf why) (at .0)
+
+abbrev pub shownEntry : EntryRead → Outcome ℕ
+shownEntry (entry.Whole c) = accepted (c .at .0)
+shownEntry (entry.Refused why at) = refused (numberOf why) (at .0)
+
+abbrev pub shownProbe : Probe → Outcome Halved
+shownProbe (probe.Met at compared) = accepted (met (at .0) compared)
+shownProbe (probe.Missing compared) = accepted (missing compared)
+shownProbe (probe.Refused why at) = refused (numberOf why) (at .0)
+
+abbrev pub shownElements : Elements → Outcome (Unit {0})
+shownElements elements.All = accepted tt
+shownElements (elements.Refused why at) = refused (numberOf why) (at .0)

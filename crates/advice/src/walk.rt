@@ -1,0 +1,173 @@
+// The map walk: reads every entry, and leaves the offsets of the keys in the lent table, keys rising.
+use crate::sort::Duplicate;
+use crate::sort::settle;
+use wire::count::CountRead;
+use wire::count::read_count;
+use wire::number::is_short;
+use wire::refusal::Refusal;
+use wire::units::ByteOffset;
+use wire::units::Cursor;
+use wire::word::WordCheck;
+use wire::word::check_word;
+ghost use mathlib.Core.Path.{_≡_};
+ghost use lib.ListN.{length, replicate};
+ghost use Rattle.advice.specs.Walk.{walkOutcome, keyTable};
+ghost use Rattle.advice.specs.Inner.{valuesOutcome, shownValues, entryOutcome, shownEntry, entriesOutcome, entriesTable, FilledTo};
+ghost use Rattle.advice.specs.Shown.{shownWalk};
+
+// The greatest length whose values take at most 2^64 - 1 bytes.
+const LENGTH_MAX: usize = 0x1FFF_FFFF_FFFF_FFFF;
+
+// The number of entries and the place after the map, or why it is none.
+pub enum MapWalk {
+    Walked(usize, Cursor),
+    Refused(Refusal, ByteOffset),
+}
+
+// Where an entry's values start and how many they are, or why there are none.
+pub(crate) enum ValuesRead {
+    Whole(ByteOffset, usize),
+    Refused(Refusal, ByteOffset),
+}
+
+// The place after an entry, or why there is none.
+enum EntryRead {
+    Whole(Cursor),
+    Refused(Refusal, ByteOffset),
+}
+
+// Why no more keys are filled in.
+enum Stop {
+    End(Cursor),
+    Refused(Refusal, ByteOffset),
+}
+
+// How many keys were filled in, and why no more.
+struct Filled {
+    n: usize,
+    stop: Stop,
+}
+
+// The length at a place, and its values, which are not judged.
+pub(crate) fn read_values(s: &[u8], at: ByteOffset) -> ValuesRead
+    ensures { λ r. ⌜ shownValues r ≡ valuesOutcome (now (s .entry)) (at .0) ⌝ }
+{
+    match read_count(s, at) {
+        CountRead::Refused(why, place) => ValuesRead::Refused(why, place),
+        CountRead::Whole(count, next) => {
+            let len = count.value as usize;
+            let from = next.at;
+            if LENGTH_MAX < len {
+                return ValuesRead::Refused(Refusal::Overflow, at);
+            }
+            if is_short(s, from, 8 * len) {
+                return ValuesRead::Refused(Refusal::Short, from);
+            }
+            ValuesRead::Whole(from, len)
+        }
+    }
+}
+
+// The entry at a place: its key, its length, and room for its values.
+fn read_entry(s: &[u8], at: ByteOffset) -> EntryRead
+    ensures { λ r. ⌜ shownEntry r ≡ entryOutcome (now (s .entry)) (at .0) ⌝ }
+{
+    match check_word(s, at) {
+        WordCheck::Refused(why, place) => EntryRead::Refused(why, place),
+        WordCheck::Whole(next) => {
+            let length = next.at;
+            match read_values(s, length) {
+                ValuesRead::Refused(why, place) => EntryRead::Refused(why, place),
+                ValuesRead::Whole(values, len) => EntryRead::Whole(Cursor {
+                    at: ByteOffset(values.0 + 8 * len),
+                }),
+            }
+        }
+    }
+}
+
+// Fills in the offsets of n keys as they come, up to the first entry that is refused. Duplicates are left for later.
+fn fill(s: &[u8], at: ByteOffset, n: usize, keys: &mut [u64]) -> Filled
+    ensures { λ r. ⌜ FilledTo (now (s .entry)) (at .0) n (now (keys .entry)) (now (keys .exit)) r ⌝ }
+{
+    let mut i: usize = 0;
+    let mut from = at.0;
+    while i < n {
+        if keys.len() <= i {
+            return Filled {
+                n: i,
+                stop: Stop::Refused(Refusal::Room, ByteOffset(from)),
+            };
+        }
+        match read_entry(s, ByteOffset(from)) {
+            EntryRead::Refused(why, place) => {
+                return Filled {
+                    n: i,
+                    stop: Stop::Refused(why, place),
+                };
+            }
+            EntryRead::Whole(next) => {
+                keys[i] = from as u64;
+                from = next.at.0;
+                i += 1;
+            }
+        }
+    }
+    Filled {
+        n: i,
+        stop: Stop::End(Cursor {
+            at: ByteOffset(from),
+        }),
+    }
+}
+
+fn clear(keys: &mut [u64])
+    ensures { λ _. ⌜ now (keys .exit) ≡ replicate (length (now (keys .entry))) 0 ⌝ }
+{
+    let mut i: usize = 0;
+    while i < keys.len() {
+        keys[i] = 0;
+        i += 1;
+    }
+}
+
+// The walk over n entries. A duplicate among the entries that were read comes before what stopped the reading.
+fn walk_entries(s: &[u8], at: ByteOffset, n: usize, keys: &mut [u64]) -> MapWalk
+    ensures { λ r. ⌜ shownWalk r ≡ entriesOutcome (length (now (keys .entry))) (now (s .entry)) (at .0) n ⌝ }
+    ensures { λ _. ⌜ now (keys .exit) ≡ entriesTable (now (s .entry)) (at .0) n (now (keys .entry)) ⌝ }
+{
+    let filled = fill(s, at, n, keys);
+    let k = filled.n;
+    let stop = filled.stop;
+    match settle(s, &mut keys[..k]) {
+        Duplicate::At(x) => {
+            clear(keys);
+            MapWalk::Refused(Refusal::Duplicate, ByteOffset(x as usize))
+        }
+        Duplicate::Nothing => match stop {
+            Stop::Refused(why, place) => {
+                clear(keys);
+                MapWalk::Refused(why, place)
+            }
+            Stop::End(end) => MapWalk::Walked(k, end),
+        },
+    }
+}
+
+// The map at a place. Accepted: its n key offsets are the table's first n numbers, keys rising, and the rest is as it was.
+// Refused: the whole table is zero.
+pub fn walk_map(s: &[u8], at: ByteOffset, keys: &mut [u64]) -> MapWalk
+    ensures { λ r. ⌜ shownWalk r ≡ walkOutcome (length (now (keys .entry))) (now (s .entry)) (at .0) ⌝ }
+    ensures { λ _. ⌜ now (keys .exit) ≡ keyTable (now (s .entry)) (at .0) (now (keys .entry)) ⌝ }
+{
+    match read_count(s, at) {
+        CountRead::Refused(why, place) => {
+            clear(keys);
+            MapWalk::Refused(why, place)
+        }
+        CountRead::Whole(count, next) => {
+            let first = next.at;
+            walk_entries(s, first, count.value as usize, keys)
+        }
+    }
+}

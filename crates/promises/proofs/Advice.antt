@@ -1,0 +1,106 @@
+-- Demand 2, the advice map: the walk accepts exactly if no rule of its table is met, every refusal is that of the first rule met, and the key
+-- table afterwards is exactly as said; over such a table lookup is never SHORT at a compared key, says absent exactly if no entry has the key,
+-- gives values inside the file, and compares at most as many keys as n has bits. Said of the functions through their promises.
+-- Assumes nothing.
+use mathlib.Core.Path.{_≡_, sym, ap, _∙_}
+use mathlib.Core.Bool.{false}
+use mathlib.Core.List.{List}
+use mathlib.Core.Logic.{_↔_}
+use Prim.Native.Nat.{ℕ, _+_, _*_, _^_, _≤_, _<_}
+use denote.Ref.{now}
+use lib.ListN.{length}
+use lib.Seq.{slice}
+use Rattle.wire.specs.Table.{accepted, noneMet}
+use Rattle.wire.specs.Refusals.{numberOf}
+use Rattle.wire.specs.declared.refusal.Refusal.{Refusal}
+use Rattle.wire.specs.declared.units.ByteOffset.{ByteOffset}
+use Rattle.wire.specs.declared.units.Cursor.{Cursor}
+use Rattle.wire.proofs.Tables.{FirstMet, same-answer}
+use Rattle.advice.specs.Keys.{seenKey}
+use Rattle.advice.specs.Walk.{Walked, walked, firstEntry, mapRules, walkOutcome, keyTable}
+use Rattle.advice.specs.Lookup.{found, absent, lookupOutcome, valuesPart, bitLength}
+use Rattle.advice.specs.Shown.{shownWalk, shownLookup}
+use Rattle.advice.specs.declared.walk.MapWalk.{MapWalk}
+use Rattle.advice.specs.declared.walk.MapWalk.the-variants as map
+use Rattle.advice.specs.declared.lookup.MapLookup.{MapLookup}
+use Rattle.advice.specs.declared.lookup.MapLookup.the-variants as look
+use Rattle.advice.proofs.Answers.{walkBack, walk-again, lookupBack, lookup-again}
+use Rattle.advice.proofs.Accepts.{walk-accepts, walk-refuses}
+use Rattle.advice.proofs.Halving.{found-inside, lookup-bits}
+use Rattle.advice.proofs.Risen.{shownKeys, absent-exactly}
+use Rattle.advice.proofs.walk.walk_map.Reads as walk-map
+use Rattle.advice.proofs.lookup.lookup.Reads as lookup-reads
+use Rattle.advice.proofs.lookup.values.Reads as values-reads
+
+-- the walk's promise allows the answer r and leaves the table t, which was t₀
+pub record Walks (s : List ℕ) (at : ℕ) (t₀ t : List ℕ) (r : MapWalk) : Type 0 where
+  pub answer : shownWalk r ≡ walkOutcome (length t₀) s at
+  pub table : t ≡ keyTable s at t₀
+
+pub walks : (κs : _) (a : _) (r : _) (e : _) → walk-map.Post κs a r e → Walks (now (a .0)) (a .1 .0 .0) (now (a .1 .1 .0)) (now (e .1 .1 .0)) r
+walks κs a r e p = record { answer = p .0; table = p .1 }
+
+-- lookup's promise allows the answer r, and the second call the part b
+abbrev pub LooksUp : List ℕ → List ℕ → ℕ → List ℕ → MapLookup → Type 0
+LooksUp s t n key r = shownLookup r ≡ lookupOutcome s t n key
+
+pub looks-up : (κs : _) (a : _) (r : _) (e : _) → lookup-reads.Post κs a r e → LooksUp (now (a .0)) (now (a .1 .0)) (a .1 .1 .0) (a .1 .1 .1 .0) r
+looks-up κs a r e p = p
+
+abbrev pub Parts : List ℕ → List ℕ → ℕ → List ℕ → List ℕ → Type 0
+Parts s t n key b = b ≡ valuesPart s (lookupOutcome s t n key)
+
+pub parts : (κs : _) (a : _) (r : _) (e : _) → values-reads.Post κs a r e → Parts (now (a .0)) (now (a .1 .0)) (a .1 .1 .0) (a .1 .1 .1 .0) (now r)
+parts κs a r e p = p
+
+-- ---- the walk
+
+module _ (s : List ℕ) (at : ℕ) (t₀ t : List ℕ) (r : MapWalk) (promised : Walks s at t₀ t r) where
+  abbrev said : ℕ → Cursor → Walked
+  said n c = record { entries = n; end = c .at .0 }
+
+  pub accepts : (n : ℕ) (c : Cursor) → (r ≡ map.Walked n c) ↔ (noneMet (mapRules s at (length t₀)) × (walked s at ≡ said n c))
+  accepts n c =
+      let law = walk-accepts (length t₀) s at (said n c) in (
+        λ e. law .0 (sym (promised .answer) ∙ ap shownWalk e),
+        λ h. same-answer shownWalk walkBack walk-again _ r (map.Walked n c) (promised .answer) (sym (law .1 h)),
+      )
+
+  pub refuses : (why : Refusal) (p : ByteOffset) → (r ≡ map.Refused why p) ↔ FirstMet (mapRules s at (length t₀)) (numberOf why) (p .0)
+  refuses why p =
+      let law = walk-refuses (length t₀) s at (numberOf why) (p .0) in (
+        λ e. law .0 (sym (promised .answer) ∙ ap shownWalk e),
+        λ h. same-answer shownWalk walkBack walk-again _ r (map.Refused why p) (promised .answer) (sym (law .1 h)),
+      )
+
+  -- ---- lookup over the table that an accepted walk left
+  module _ (n : ℕ) (c : Cursor) (taken : r ≡ map.Walked n c) (key : List ℕ) (x : MapLookup) (looked : LooksUp s t n key x) where
+    -- absent is said exactly if no entry has the key
+    pub absent-if-none : ((k : ℕ) × (x ≡ look.Absent k)) ↔ (seenKey (shownKeys s (firstEntry s at) n) key ≡ false)
+    absent-if-none =
+        let walked′ : walkOutcome (length t₀) s at ≡ accepted (said n c) = sym (promised .answer) ∙ ap shownWalk taken in
+        let law = absent-exactly s at t₀ (said n c) walked′ key in
+        let same : lookupOutcome s t n key ≡ lookupOutcome s (keyTable s at t₀) n key = ap (λ (u : List ℕ). lookupOutcome s u n key) (promised .table) in (
+          λ k. law .0 (k .0, sym same ∙ sym looked ∙ ap shownLookup (k .1)),
+          λ h. let k = law .1 h in (k .0, same-answer shownLookup lookupBack lookup-again _ x (look.Absent (k .0)) looked (sym (same ∙ k .1))),
+        )
+
+-- ---- lookup over any table
+
+module _ (s t : List ℕ) (n : ℕ) (key : List ℕ) (x : MapLookup) (looked : LooksUp s t n key x) where
+  -- what is found lies inside the file, and the second call gives those bytes
+  module _ (at : ByteOffset) (len compared : ℕ) (is : x ≡ look.Found at len compared) where
+    answered : accepted (found (at .0) len compared) ≡ lookupOutcome s t n key
+    answered = sym (ap shownLookup is) ∙ looked
+
+    pub values-inside : at .0 + 8 * len ≤ length s
+    values-inside = found-inside s t n key (at .0) len compared answered
+
+    pub values-part : (b : List ℕ) → Parts s t n key b → b ≡ slice (at .0) (at .0 + 8 * len) s
+    values-part b p = rw (← answered) at p
+
+    pub found-compares : n < 2 ^ 64 → compared ≤ bitLength n
+    found-compares h = lookup-bits s t n key (found (at .0) len compared) h (sym answered)
+
+  pub absent-compares : (compared : ℕ) → x ≡ look.Absent compared → n < 2 ^ 64 → compared ≤ bitLength n
+  absent-compares compared is h = lookup-bits s t n key (absent compared) h (sym looked ∙ ap shownLookup is)
