@@ -6,7 +6,7 @@ use mathlib.Core.Bool.{true}
 use mathlib.Core.List.{List, [], _∷_, _++_, map}
 use Prim.Native.Nat.{ℕ, _-_, _^_}
 use lib.Count.{trailingZeros, ones, onesIn}
-use Rattle.wire.specs.Table.{Outcome, refused, accepted, firstMet, At}
+use Rattle.wire.specs.Table.{Outcome, refused, accepted, firstMet, _>>=_, At}
 use Rattle.wire.specs.Refusals.{TAG, PAYLOAD}
 use Rattle.wire.specs.Le.{le, leBytes}
 use Rattle.wire.specs.Counts.{countLength, countValue, counted, countOutcome, leastFrom, shortestLen, countForm, countBytes}
@@ -17,6 +17,8 @@ use Rattle.info.specs.declared.MastNodeEntry.{MastNodeEntry}
 use Rattle.info.specs.declared.MastNodeEntry.the-variants.{Join, Dyn}
 use Rattle.layout.specs.Facts.{badFormat, overBudget}
 use Rattle.layout.specs.Scan.{wordsRules, externals, scanRules, scanOutcome}
+use Rattle.layout.specs.Rows.{rowRules, rowOutcome, entryPass}
+use Rattle.resolved.specs.Slots.{countOf, slotsOf, tableRules, slotsOutcome, tableAfter}
 use Rattle.layout.specs.declared.facts.FormatFacts.{FormatFacts}
 use Rattle.layout.specs.declared.facts.Bound.the-variants.{None}
 use Rattle.layout.specs.declared.forest.HashSection.the-variants.{Absent}
@@ -29,6 +31,7 @@ pub data Question : Type 0 where
   decode : ℕ → Question
   encode : MastNodeEntry → Question
   scan : List ℕ → Question
+  slots : List ℕ → Question
 
 pub data Answer : Type 0 where
   counts : Outcome (At Count) → Answer
@@ -36,6 +39,7 @@ pub data Answer : Type 0 where
   entry : Outcome MastNodeEntry → Answer
   word : Outcome ℕ → Answer
   layout : Outcome ForestLayout → Answer
+  table : List ℕ → Answer
 
 pub record Example : Type 0 where
   pub question : Question
@@ -71,6 +75,11 @@ hashlessFile =
     ++ (leBytes 32 0
     ++ (0x01 ∷ []))))))
 
+-- the slots of an accepted file's three nodes
+abbrev pub slotTable : List ℕ → Outcome ForestLayout → List ℕ
+slotTable s (refused n p) = []
+slotTable s (accepted l) = tableAfter s l None (9 ∷ 9 ∷ 9 ∷ [])
+
 -- what the definitions answer
 abbrev pub ask : Question → Answer
 ask (count bs) = counts (countOutcome bs 0)
@@ -78,6 +87,7 @@ ask (shortest v) = bytes (countBytes v)
 ask (decode w) = entry (decodeOutcome 0 w)
 ask (encode e) = word (encodeOutcome e)
 ask (scan s) = layout (scanOutcome stand-in s true None)
+ask (slots s) = table (slotTable s (scanOutcome stand-in s true None))
 
 abbrev pub examples : List Example
 examples =
@@ -129,8 +139,9 @@ examples =
       «node_hash_offset» = Absent;
       «advice_map_offset» = record { 0 = 73 };
     })))
+    ∷ (slots hashlessFile ⇒ table (0 ∷ 0 ∷ 1 ∷ []))
     ∷ []
 
 pub answered : map (λ (x : Example). ask (x .question)) examples ≡ map (λ (x : Example). x .answer) examples
-unfolding firstMet countOutcome counted countLength trailingZeros countValue le leBytes countForm shortestLen leastFrom decodeOutcome decodeRules entryOf badTag badPayload encodeOutcome scanOutcome scanRules badFormat ones onesIn overBudget wordsRules externals numbersOf
+unfolding firstMet countOutcome counted countLength trailingZeros countValue le leBytes countForm shortestLen leastFrom decodeOutcome decodeRules entryOf badTag badPayload encodeOutcome scanOutcome scanRules badFormat ones onesIn overBudget wordsRules externals numbersOf tableAfter slotsOutcome tableRules slotsOf countOf entryPass rowOutcome rowRules _>>=_
 answered = refl

@@ -1,4 +1,5 @@
 pub mod Examples
 pub mod Tight
 pub mod Scan
+pub mod Resolved
 pub mod Advice

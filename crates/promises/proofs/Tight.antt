@@ -38,6 +38,15 @@ use Rattle.layout.proofs.rows.read_entries.Reads as read-entries
 use Rattle.layout.proofs.scan.scan_layout.Reads as scan-layout
 use Rattle.layout.proofs.index.read_procedure_root_at.Reads as read-procedure-root-at
 use Rattle.layout.proofs.index.read_node_entry_at.Reads as read-node-entry-at
+use Rattle.resolved.specs.Shown.{shownSlots, shownCheck as shownNodes}
+use Rattle.resolved.proofs.Answers.{slotsBack, slots-again, checkBack as nodesBack, check-again as nodes-again, digest-one}
+use Rattle.resolved.proofs.slots.build_slots.Reads as build-slots
+use Rattle.resolved.proofs.digests.digest_place.Reads as digest-place
+use Rattle.resolved.proofs.digests.digest_by_counting.Reads as digest-by-counting
+use Rattle.resolved.proofs.digests.digest_with_table.Reads as digest-with-table
+use Rattle.resolved.proofs.checks.check_children.Reads as check-children
+use Rattle.resolved.proofs.checks.check_order.Reads as check-order
+use Rattle.resolved.proofs.checks.check_strict.Reads as check-strict
 use Rattle.advice.specs.Shown.{shownWalk, shownLookup}
 use Rattle.advice.proofs.Answers.{walkBack, walk-again, lookupBack, lookup-again}
 use Rattle.advice.proofs.walk.walk_map.Reads as walk-map
@@ -138,6 +147,32 @@ read-procedure-root-at-one κs a r r′ e e′ p p′ = same-answer shownRoot ro
 
 pub read-node-entry-at-one : One read-node-entry-at.Post
 read-node-entry-at-one κs a r r′ e e′ p p′ = same-answer shownRow rowBack row-again _ r r′ p p′
+
+-- ---- resolved
+
+pub build-slots-one : One build-slots.Post
+build-slots-one κs a r r′ e e′ p p′ = same-answer shownSlots slotsBack slots-again _ r r′ (p .0) (p′ .0)
+
+pub build-slots-leaves : (κs : _) (a : _) (r r′ : _) (e e′ : _) → build-slots.Post κs a r e → build-slots.Post κs a r′ e′ → now (e .1 .1 .1 .0) ≡ now (e′ .1 .1 .1 .0)
+build-slots-leaves κs a r r′ e e′ p p′ = p .1 ∙ sym (p′ .1)
+
+pub digest-place-one : One digest-place.Post
+digest-place-one κs a r r′ e e′ p p′ = p ∙ sym p′
+
+pub digest-by-counting-one : One digest-by-counting.Post
+digest-by-counting-one κs a r r′ e e′ p p′ = digest-one _ r r′ p p′
+
+pub digest-with-table-one : One digest-with-table.Post
+digest-with-table-one κs a r r′ e e′ p p′ = digest-one _ r r′ p p′
+
+pub check-children-one : One check-children.Post
+check-children-one κs a r r′ e e′ p p′ = same-answer shownNodes nodesBack nodes-again _ r r′ p p′
+
+pub check-order-one : One check-order.Post
+check-order-one κs a r r′ e e′ p p′ = same-answer shownNodes nodesBack nodes-again _ r r′ p p′
+
+pub check-strict-one : One check-strict.Post
+check-strict-one κs a r r′ e e′ p p′ = same-answer shownNodes nodesBack nodes-again _ r r′ p p′
 
 -- ---- advice
 

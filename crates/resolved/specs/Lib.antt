@@ -1,0 +1,5 @@
+pub mod Nodes
+pub mod Slots
+pub mod Digests
+pub mod Checks
+pub mod Shown
