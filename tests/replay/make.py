@@ -17,6 +17,16 @@ writes, all bytes of the buffer as the call leaves it. An entry is three numbers
 where it has none. A further entry point takes the next number; lent tables are further arguments, and
 follow the answer as the call leaves them. So no line changes.
 
+Records among the arguments, in this order:
+    facts   ten numbers: magic (4), version (3), hashless mask, reserved mask, node maximum
+    bound   two numbers: 0 and 0 for none, 1 and the bytes
+    layout  twelve numbers, and so as an answer: nodes, internal, external, roots, roots at, blocks at,
+            block length, entries at, external digests at, hashes (1 and at, or 0 and 0), map at
+bad_format takes facts; scan_layout facts, whether hashless is allowed, and a bound; the readers by
+index a layout and the index; row_place a section's place, the size of a row and its number, and answers
+0 and the row's place, or OVERFLOW alone; row_entry and read_entries the first row's place, and a row's
+number or how many rows. read_entries answers twice, by the quick pass and then by the plain one.
+
 Each answer has up to three sources, which have to agree: the published Rust, model.py, and the plain
 statement of document 01 in this file. What is counted as a line's source is the first of the three
 that has an answer.
@@ -29,7 +39,9 @@ from pathlib import Path
 TOP = 2**64 - 1
 MODULUS = 2**64 - 2**32 + 1
 FAR = (2**63, TOP - 7, TOP)  # places that no file reaches
-SHORT, TAG, PAYLOAD, ELEMENT, ROOM = 1, 9, 10, 18, 20
+(SHORT, MAGIC, VERSION, FLAGS, HASHLESS, OVERFLOW, TOO_MANY, BUDGET, TAG, PAYLOAD, EXTERNALS, INDEX,
+ ROOT_ID) = range(1, 14)
+ELEMENT, ROOM, FORMAT = 18, 20, 21
 KINDS = "Join Split Loop Block Call SysCall Dyn Dyncall External".split()
 REFUSALS = ("SHORT MAGIC VERSION FLAGS HASHLESS OVERFLOW TOO-MANY BUDGET TAG PAYLOAD EXTERNALS INDEX "
             "ROOT-ID NO-HASH CHILD-RANGE FORWARD ORDER ELEMENT DUPLICATE ROOM FORMAT NOT-CANONICAL "
@@ -128,6 +140,133 @@ def read_entry(s, at):
     return answer + [at + 8] if answer[0] == 0 else answer
 
 
+def over(n):
+    """By how much a number is above those of 64 bits: above 0 if it is."""
+    return n - TOP
+
+
+def ones(n):
+    return bin(n).count("1")
+
+
+def bad_format(facts):
+    *_, hashless, reserved, maximum = facts
+    return ones(hashless) != 1 or hashless & reserved != 0 or maximum > 2**30
+
+
+def missing(s, at, n):
+    return at + n - len(s)
+
+
+def count_missing(s, at):
+    size = 1 if is_short(s, at, 1) else 9 if s[at] == 0 else (s[at] & -s[at]).bit_length()
+    return missing(s, at, size)
+
+
+def scan_rules(s, facts, allow, bound):
+    """The scan's table, a line at a time: name, number, place, and by how much the rule is broken, which
+    is 0 or less if it is not. Past a broken rule nothing is asked. The last line is the layout."""
+    magic, version, (mask, reserved, maximum) = facts[:4], facts[4:7], facts[7:]
+
+    def beyond(size, count):
+        return count - bound[1] // size if bound[0] else 0
+
+    yield "FORMAT", FORMAT, 0, int(bad_format(facts))
+    yield "SHORT magic", SHORT, 0, missing(s, 0, 4)
+    yield "MAGIC", MAGIC, 0, int(s[:4] != magic)
+    yield "SHORT flags", SHORT, 4, missing(s, 4, 1)
+    yield "SHORT version", SHORT, 5, missing(s, 5, 3)
+    yield "VERSION", VERSION, 5, int(s[5:8] != version)
+    yield "FLAGS", FLAGS, 4, ones(s[4] & reserved)
+    hashless = s[4] & mask != 0
+    yield "HASHLESS", HASHLESS, 4, int(hashless and not allow)
+    yield "SHORT internal count", SHORT, 8, count_missing(s, 8)
+    _, internal, _, external_at = read_count(s, 8)
+    yield "SHORT external count", SHORT, external_at, count_missing(s, external_at)
+    _, external, _, roots_at = read_count(s, external_at)
+    nodes = internal + external
+    yield "OVERFLOW nodes", OVERFLOW, 8, over(nodes)
+    yield "TOO-MANY", TOO_MANY, 8, nodes - maximum
+    yield "BUDGET nodes", BUDGET, 8, beyond(8, nodes)
+    yield "BUDGET externals", BUDGET, 8, beyond(32, external)
+    yield "BUDGET internals", BUDGET, 8, 0 if hashless else beyond(32, internal)
+    yield "SHORT roots count", SHORT, roots_at, count_missing(s, roots_at)
+    _, roots, _, rows_at = read_count(s, roots_at)
+    yield "BUDGET roots", BUDGET, roots_at, beyond(4, roots)
+    yield "OVERFLOW roots", OVERFLOW, roots_at, over(4 * roots)
+    yield "SHORT roots", SHORT, rows_at, missing(s, rows_at, 4 * roots)
+    length_at = rows_at + 4 * roots
+    yield "SHORT block length", SHORT, length_at, count_missing(s, length_at)
+    _, length, _, data_at = read_count(s, length_at)
+    hashes = 0 if hashless else 32 * internal
+    sections = length + 8 * nodes + 32 * external + hashes
+    yield "OVERFLOW sections", OVERFLOW, length_at, over(sections)
+    yield "BUDGET sections", BUDGET, length_at, beyond(1, sections)
+    yield "SHORT sections", SHORT, data_at, missing(s, data_at, sections)
+    entries_at = data_at + length
+    places = range(entries_at, entries_at + 8 * nodes, 8)
+    words = [le(s[at:at + 8]) for at in places]
+    for at, word in zip(places, words):
+        yield "TAG", TAG, at, word // 2**60 - 8
+        yield "PAYLOAD", PAYLOAD, at, int(word // 2**60 in (2, 3, 4, 5)) * (word % 2**60 - 2**32 + 1)
+    counted = sum(word // 2**60 == 8 for word in words)
+    yield "EXTERNALS", EXTERNALS, external_at, abs(counted - external)
+    digests_at = entries_at + 8 * nodes
+    hashes_at = digests_at + 32 * external
+    yield None, 0, [nodes, internal, external, roots, rows_at, data_at, length, entries_at, digests_at,
+                    *((0, 0) if hashless else (1, hashes_at)), hashes_at + hashes], 1
+
+
+def looked_at(s, args):
+    """The lines of the table down to the first that is broken, or to the layout."""
+    for rule in scan_rules(s, list(args[:10]), args[10], args[11:]):
+        yield rule
+        if rule[3] > 0:
+            return
+
+
+def scan_layout(s, *args):
+    *_, (line, number, value, _) = looked_at(s, args)
+    return [number, value] if line else [number, *value]
+
+
+def row_place(s, section, size, i):
+    at = section + size * i
+    return [OVERFLOW] if over(at + size) > 0 else [0, at]
+
+
+def row_read(s, section, size, i, read):
+    number, *at = row_place(s, section, size, i)
+    if number:
+        return [number, i]
+    return [SHORT, i] if is_short(s, *at, size) else read(le(s[at[0]:at[0] + size]))
+
+
+def row_entry(s, first, i):
+    return row_read(s, first, 8, i, lambda word: decode(word, i))
+
+
+def read_entries(s, first, n):
+    externals = 0
+    for i in range(n):
+        answer = row_entry(s, first, i)
+        if answer[0]:
+            return answer * 2
+        externals += answer[1] == 8
+    return [0, externals] * 2
+
+
+def root_at(s, *args):
+    i = args[12]
+    if args[3] <= i:
+        return [INDEX, i]
+    return row_read(s, args[4], 4, i, lambda id: [ROOT_ID, i] if args[0] <= id else [0, id])
+
+
+def entry_at(s, *args):
+    return [INDEX, args[12]] if args[0] <= args[12] else row_entry(s, args[7], args[12])
+
+
 POINTS = {
     "refusal_number": lambda s, i: [i],
     "is_short": lambda s, at, n: [int(is_short(s, at, n))],
@@ -146,6 +285,13 @@ POINTS = {
     "decode_entry": lambda s, word: decode(word, 0),
     "encode_entry": encode_entry,
     "read_entry": read_entry,
+    "bad_format": lambda s, *facts: [int(bad_format(facts))],
+    "row_place": row_place,
+    "row_entry": row_entry,
+    "read_entries": read_entries,
+    "scan_layout": scan_layout,
+    "read_procedure_root_at": root_at,
+    "read_node_entry_at": entry_at,
 }
 
 # ---- the model, where it has the entry point
@@ -179,7 +325,42 @@ def modelled(model):
     def read(s, at):
         return word(s, at) + [model.le(s[at + i:at + i + 8]) for i in (0, 8, 16, 24)]
 
+    def scan(s, *args):
+        facts = type("Facts", (), dict(zip(("hashless", "reserved", "max_nodes"), args[7:10])))
+        facts.magic, facts.version = bytes(args[:4]), bytes(args[4:7])
+        return model.scan(s, args[10], args[12] if args[11] else None, f=facts)[1]
+
+    def scanned(s, *args):
+        lay = scan(s, *args)
+        *fields, hashes, map_at = (getattr(lay, name) for name in model.FIELDS.split())
+        return [0, *fields, *((0, 0) if hashes is None else (1, hashes)), map_at]
+
+    def layout(args):
+        return model.Layout(*args[:9], args[10] if args[9] else None, args[11])
+
+    def shown(kind, ids):
+        return [0, kind, *ids, 0, 0][:4]
+
+    def row(s, first, i):
+        return shown(*model.entry(s, model.row(s, first, 8, i, i), i))
+
+    def rows(s, first, n):
+        return [0, sum(row(s, first, i)[1] == 8 for i in range(n))]
+
+    def place(s, section, size, i):
+        try:
+            return [0, model.row(s, section, size, i, i)]
+        except model.Refused as r:  # SHORT: the row is none of the file's, and has a place
+            return [0, section + size * i] if r.number == SHORT else [r.number]
+
     return {
+        "bad_format": lambda s, *facts: [int(refusing(scan)(s, *facts, 1, 0, 0)[0] == FORMAT)],
+        "row_place": place,
+        "row_entry": refusing(row),
+        "read_entries": lambda s, *args: refusing(rows)(s, *args) * 2,
+        "scan_layout": refusing(scanned),
+        "read_procedure_root_at": refusing(lambda s, *args: [0, model.root(s, layout(args), args[12])]),
+        "read_node_entry_at": refusing(lambda s, *args: shown(*model.node(s, layout(args), args[12]))),
         "refusal_number": lambda s, i: [list(model.NAMES.values()).index(REFUSALS[i - 1])],
         "read_count": refusing(count),
         "is_element": lambda s, x: [int(x < model.P)],
@@ -191,33 +372,97 @@ def modelled(model):
     }
 
 
-# ---- the Rust, where it has the entry point: a command, and what its answer says
+# ---- the Rust, where it has the entry point: commands, and what the answer to the last one says
 
 
 def hexed(s):
     return bytes(s).hex() or "."
 
 
-def command(name, s, args):
+def scan_command(s, args):
+    magic, version, hashless, reserved = (bytes(args[a:b]).hex() for a, b in ((0, 4), (4, 7), (7, 8), (8, 9)))
+    bound = str(args[12]) if args[11] else "-"
+    return [f"format {magic} {version} {hashless} {reserved} {args[9]}", f"scan {args[10]} {bound} {hexed(s)}"]
+
+
+def by_index(what, layout, i, s):
+    fields = [*layout[:9], layout[10] if layout[9] else "-", layout[11]]
+    return f"{what} {','.join(map(str, fields))} {i} {hexed(s)}"
+
+
+def row_command(what, place, i, s):
+    """A record with as many rows as there can be: only the last number is no row's."""
+    return by_index(what, [TOP, 0, 0, TOP, place, 0, 0, place, 0, 0, 0, 0], i, s)
+
+
+def is_long(s):
+    """Too long to ask for each row: the scan is asked."""
+    return len(s) > 4096
+
+
+def as_file(s, first, n):
+    """Rows as the entries of a hashless file."""
+    return forest([s[at:at + 8] for at in range(first, first + 8 * n, 8)], flags=2)
+
+
+def commands(name, s, args, answer):
     if name == "decode_entry":
-        return "entry " + args[0].to_bytes(8, "little").hex()
+        return ["entry " + args[0].to_bytes(8, "little").hex()]
     if name == "read_entry":
-        return "entry " + hexed(s[args[0]:])
+        return ["entry " + hexed(s[args[0]:])]
     if name == "encode_entry":
         ids = args[1:(3, 3, 2, 2, 2, 2, 1, 1, 1)[args[0]]]
-        return " ".join(["encode", KINDS[args[0]], *map(str, ids)])
+        return [" ".join(["encode", KINDS[args[0]], *map(str, ids)])]
     if name == "read_count":  # the count reader is a shim, and no source: it only has to agree
-        return "shim-count " + hexed(s[args[0]:])
-    return None
+        return ["shim-count " + hexed(s[args[0]:])]
+    if name == "scan_layout" and answer[0] != FORMAT:  # the Rust's facts are constants, and no format too
+        return scan_command(s, args)
+    if name == "read_procedure_root_at":
+        return [by_index("root", args, args[12], s)]
+    if name == "read_node_entry_at":
+        return [by_index("node", args, args[12], s)]
+    if name == "row_place" and args[1] in (4, 8) and args[2] < TOP:
+        return [row_command("root" if args[1] == 4 else "node", args[0], args[2], s)]
+    if name == "row_entry" and args[1] < TOP:
+        return [row_command("node", *args, s)]
+    if name == "read_entries" and is_long(s):
+        return scan_command(as_file(s, *args), [*FACTS, 1, 0, 0])
+    if name == "read_entries":
+        rows = answer[1] + 1 if answer[0] else args[1]
+        return [row_command("node", args[0], i, s) for i in range(rows)]
+    return []
+
+
+def said_of_rows(s, args, answers):
+    words = [answer.split() for answer in answers]
+    if is_long(s):
+        number, *numbers = said("scan_layout", [], answers[-1])
+        entries_at = read_count(as_file(s, *args), 8)[3] + 3  # three counts of a byte
+        return 2 * ([number, (numbers[0] - entries_at) // 8] if number else [0, numbers[2]])
+    if words and words[-1][0] == "err":
+        assert all(w[0] == "ok" for w in words[:-1])
+        return 2 * [int(words[-1][1]), int(words[-1][3])]
+    return 2 * [0, sum(w[1] == "External" for w in words)]
 
 
 def said(name, args, answer):
     """An answer of the Rust, which reads at 0, in the numbers of a line; a count's length is not said."""
     words = answer.split(" | ")[0].split()
     at = args[0] if name in ("read_entry", "read_count") else 0
+    if name == "row_place" and words[:2] != ["err", "6"]:
+        return [0, args[0] + args[1] * args[2]]
+    if name == "row_place":
+        return [OVERFLOW]
     if words[0] == "err":
         return [int(words[1]), at + int(words[3])]
     assert words[0] == "ok", answer
+    if name == "scan_layout":
+        *fields, hashes, map_at = words[2].split(",")
+        return [0, *map(int, fields), *((0, 0) if hashes == "-" else (1, int(hashes))), int(map_at)]
+    if name == "read_procedure_root_at":
+        return [0, int(words[1])]
+    if name in ("read_node_entry_at", "row_entry"):
+        return [0, KINDS.index(words[1]), *map(int, words[2:]), 0, 0][:4]
     if name == "encode_entry":
         return [0, le(bytes.fromhex(words[1]))]
     if name == "read_count":
@@ -388,26 +633,314 @@ def bench():
     assert encode_entry([], 6, 0, 0) == [0, 0x6000000000000000]
 
 
+# the facts that the small program has for want of others
+FACTS = [*b"MAST", 0, 0, 2, 2, 0xFC, 2**30 - 1]
+NO_HASHES = 2
+
+
+def entry(kind, payload=0):
+    return list((kind * 2**60 + payload).to_bytes(8, "little"))
+
+
+EXTERNAL, DYN, JOIN, BLOCK = entry(8), entry(6), entry(0, 1), entry(3)
+
+
+def forest(rows=(), roots=(), block=(), flags=0, facts=FACTS, said=None, sizes=(0, 0, 0, 0)):
+    """A file with these entries, whose digests are zeros and whose map is empty. It says the true counts,
+    or those of `said`: internal, external, roots, block length. Each has its shortest form, or `sizes` bytes."""
+    external = sum(row[7] >> 4 == 8 for row in rows)
+    true = [len(rows) - external, external, len(roots), len(block)]
+    counts = [form(v, size or shortest_len(v)) for v, size in zip(said or true, sizes)]
+    digests = external if flags & facts[7] else len(rows)
+    head = [*facts[:4], flags, *facts[4:7], *counts[0], *counts[1], *counts[2]]
+    roots = [b for id in roots for b in id.to_bytes(4, "little")]
+    return head + roots + counts[3] + list(block) + sum(rows, []) + [0] * (32 * digests) + [1]
+
+
+def scan(s, allow=1, bound=None, facts=FACTS):
+    case("scan_layout", *facts, int(allow), *((0, 0) if bound is None else (1, bound)), s=s)
+
+
+P10 = [EXTERNAL, BLOCK, JOIN], [2], [0xAB]
+
+
+def bench_files():
+    """P10 with and without hashes: whole, cut at every length, each byte damaged in two ways."""
+    for flags in NO_HASHES, 0:
+        s = forest(*P10, flags=flags)
+        assert scan_layout(s, *FACTS, 1, 0, 0)[8:] == ([17, 41, 0, 0, 73] if flags else [17, 41, 1, 73, 137])
+        for allow in 0, 1:
+            for bound in None, 0, len(s), TOP:
+                scan(s, allow, bound)
+        for left in range(len(s)):
+            scan(s[:left], bound=(None, 400, TOP)[left % 3])
+        for at in range(len(s)):
+            for damage in 255, 1 << rng.randrange(8):
+                bad = s[:at] + [s[at] ^ damage] + s[at + 1:]
+                scan(bad, rng.randrange(8) > 0, rng.choice((None, None, 200, 400, TOP)))
+
+
+def headers():
+    good = forest(*P10, flags=NO_HASHES)
+    for mask, reserved, maximum in ((0, 0, 5), (0, 255, 5), (3, 0, 5), (129, 4, 5), (255, 0, 5), (2, 2, 5),
+                                    (2, 254, 5), (128, 255, 5), (1, 254, 2**30 + 1), (1, 254, TOP),
+                                    (2, 252, 2**30), (2, 252, 0), (64, 0, 5), (1, 2, 5), (254, 1, 5)):
+        facts = [*FACTS[:7], mask, reserved, maximum]
+        case("bad_format", *facts)
+        for s in good, [], forest(*P10, facts=facts), [1, 2, 3, 4]:
+            scan(s, facts=facts)
+    for bit in range(8):
+        for reserved in 0, 255 - (1 << bit), 1 << (bit + 1) % 8, 255:
+            facts = [*some(7), 1 << bit, reserved, rng.choice((0, 3, 2**30))]
+            case("bad_format", *facts)
+            for flags in 0, 1 << bit, 255, rng.randrange(256):  # bits of neither mask are free
+                scan(forest(*P10, flags=flags, facts=facts), rng.randrange(4) > 0, facts=facts)
+    for size in range(9):
+        scan(good[:size])
+        scan([0] * size)
+        scan(good[:4] + [255] * (size - 4))
+    for at in range(8):
+        scan(good[:at] + [good[at] ^ 128] + good[at + 1:at + 1 + 8 * (at % 2)])
+    for flags in range(0, 256, 5):
+        scan(forest(*P10, flags=flags), flags % 2)
+    scan([*good[:4], 255, 0, 0, 3])  # VERSION before FLAGS
+    scan([*good[:4], 255, 0, 0, 2], 0)  # FLAGS before HASHLESS
+    for magic in [0] * 4, [255] * 4, [1, 2, 3, 4]:
+        facts = [*magic, 9, 8, 7, 1, 254, 3]
+        scan(forest(*P10, flags=1, facts=facts), facts=facts)
+        scan(good, facts=facts)
+
+
+def sizes():
+    """The counts: cut, in long forms, their sum, and how many the facts and a bound allow."""
+    for k in range(4):
+        for size in range(1, 10):  # each count in each form, and each form cut
+            longer = forest(*P10, flags=NO_HASHES, sizes=[size * (i == k) for i in range(4)])
+            end = 11 + (4 + 1) * (k == 3) - (k < 3) * (2 - k) + size - 1
+            scan(longer, bound=rng.choice((None, 400)))
+            scan(longer[:end])
+            scan(longer[:end - 1])
+            scan(longer[:end - size])
+    for a, b in ((TOP, 0), (TOP, 1), (1, TOP), (0, TOP), (2**63, 2**63), (2**63, 2**63 - 1), (TOP, TOP)):
+        scan(forest(said=[a, b, 0, 0]), bound=rng.choice((None, 0)))
+    for maximum in 0, 1, 5, 2**30 - 1, 2**30:
+        facts = [*FACTS[:9], maximum]
+        for nodes in maximum, maximum + 1:
+            for external in {0, nodes // 2, nodes}:
+                said = [nodes - external, external, 0, 0]
+                scan(forest(said=said), facts=facts)
+                scan(forest(said=said)[:-2], bound=TOP, facts=facts)
+    for k in 1, 2, 5:
+        for size, kind, flags in (8, DYN, NO_HASHES), (32, EXTERNAL, NO_HASHES), (32, DYN, 0), (32, EXTERNAL, 0):
+            s = forest([kind] * k, flags=flags)
+            for bound in size * k - 1, size * k, size * k + size - 1, 8 * k - 1, 8 * k, 40 * k - 1, 40 * k:
+                scan(s, bound=bound)
+                scan(s[:10], bound=bound)
+    scan(forest([DYN] * 3 + [EXTERNAL], flags=0), bound=95)
+    scan(forest([DYN] * 3 + [EXTERNAL], flags=0)[:10], bound=96)
+
+
+def sections():
+    """Roots and sections: their budgets, where they end, and lengths near 2 ** 64."""
+    for k in 1, 2, 3:
+        s = forest([DYN], list(range(k)), flags=NO_HASHES)
+        for bound in 4 * k - 1, 4 * k, 4 * k + 3, 8:
+            scan(s, bound=max(bound, 8))
+            scan(forest([], list(range(k))), bound=bound)
+    for k in range(11):  # one root, two roots: cut
+        scan(forest([], [5, 6])[:k + 11])
+    for roots in 2**62 - 2, 2**62 - 1, 2**62, 2**62 + 1, 2**63, TOP:
+        for bound in None, 0, 100, TOP:
+            scan(forest(said=[0, 0, roots, 0]), bound=bound)
+    for rows, flags in ([], 0), ([DYN], 0), ([EXTERNAL, DYN], 0), ([EXTERNAL, DYN], NO_HASHES), ([EXTERNAL] * 2, 0):
+        s = forest(rows, [0], flags=flags)
+        fixed = len(s) - 17
+        external = rows.count(EXTERNAL)
+        for d in -25, -24, -23, -1, 0, 1, 2:  # their end, at 24 and more, and their sum beside 2 ** 64 - 1
+            length = min(TOP - fixed + d, TOP)
+            long = forest(rows, [0], flags=flags, said=[len(rows) - external, external, 1, length])
+            scan(long, bound=rng.choice((None, TOP)))
+            scan(long, bound=100)
+        scan(forest(rows, [0], flags=flags, said=[len(rows) - external, external, 1, TOP]), bound=200)
+        for block in 1, 7:
+            whole = forest(rows, [0], some(block), flags)
+            scan(whole[:-1])
+            scan(whole[:-2])
+            scan(whole[:len(whole) - 1 - fixed])
+            for bound in block - 1, block, fixed - 1, fixed, block + fixed - 1, block + fixed:
+                scan(whole, bound=max(bound, 0))
+    for block in 1, 2, 40:
+        for bound in block - 1, block, block + 1:
+            scan(forest([], [], some(block)), bound=bound)
+            scan(forest([], [], some(block), NO_HASHES)[:-2], bound=bound)
+
+
+def entries_of_files():
+    for tag in range(16):
+        for payload in PAYLOADS:
+            at = rng.randrange(3)
+            rows = [DYN, EXTERNAL, JOIN]
+            rows[at] = entry(tag, payload)
+            scan(forest(rows, flags=rng.choice((0, NO_HASHES))))
+    for first in entry(9), entry(4, 2**32):  # the first bad entry is named, and before EXTERNALS
+        for second in entry(15), entry(2, 2**32):
+            scan(forest([DYN, first, second], [1], [7] * 3, said=[2, 1, 1, 3]))
+    for rows in [], [DYN], [EXTERNAL], [EXTERNAL, DYN], [DYN, EXTERNAL], [BLOCK, JOIN, EXTERNAL, EXTERNAL]:
+        external = rows.count(EXTERNAL)
+        for d in -1, 1:
+            if 0 <= external + d <= len(rows):  # as many sections as it says: zeros after the entries
+                said = [len(rows) - external - d, external + d, 0, 0]
+                scan(forest(rows, said=said))
+                scan(forest(rows, flags=NO_HASHES, said=said) + [0] * 32, bound=TOP)
+
+
+def many_entries():
+    """More than a block of the quick pass: all good, a bad tag and a wide payload in the second block."""
+    rows = [entry(0)] * 4100
+    rows[7], rows[4095], rows[4096], rows[4099] = EXTERNAL, entry(5, 2**32 - 1), EXTERNAL, entry(6, 2**60 - 1)
+    for bad in {}, {4097: entry(9)}, {4096: entry(2, 2**32)}:
+        damaged = [bad.get(i, row) for i, row in enumerate(rows)]
+        scan(forest(damaged, flags=NO_HASHES))
+        case("read_entries", 3, 4100, s=some(3) + sum(damaged, []))
+
+
+def random_files():
+    for _ in range(250):
+        facts = FACTS
+        if rng.random() < 0.3:
+            mask = 1 << rng.randrange(8)
+            facts = [*some(7), mask, rng.randrange(256) & ~mask, rng.choice((2, 4, 2**30))]
+        rows = [entry(rng.randrange(9), rng.getrandbits(rng.randrange(33))) for _ in range(rng.randrange(5))]
+        if rng.random() < 0.1 and rows:
+            rows[-1] = some(8)
+        flags = facts[7] * rng.randrange(2) | (rng.randrange(256) if rng.random() < 0.1 else 0)
+        wide = [rng.choice((0, 0, 0, rng.randrange(4, 10))) for _ in range(4)]
+        s = forest(rows, [rng.randrange(5) for _ in range(rng.randrange(3))], some(rng.randrange(4)), flags,
+                   facts, sizes=wide)
+        if rng.random() < 0.4:
+            at = rng.randrange(len(s))
+            s = s[:at] + rng.choice(([], [rng.randrange(256)] + s[at + 1:], some(2) + s[at:]))
+        scan(s, rng.randrange(5) > 0, rng.choice((None, None, rng.randrange(300), TOP)), facts)
+
+
+def rows_by_number():
+    for size in 0, 1, 4, 8, 32, 2**63, TOP:
+        for section in 0, 1, 100, TOP - size, TOP - size + 1, TOP:
+            if section <= TOP:
+                for i in 0, 1, 2, TOP:
+                    case("row_place", section, size, i)
+                if size:
+                    last = (TOP - section - size) // size
+                    for i in last, last + 1:
+                        case("row_place", section, size, max(i, 0))
+    for _ in range(40):
+        case("row_place", number(), rng.choice((4, 8, 32)), number())
+    rows = [EXTERNAL, entry(0, 2**30 + 5), entry(2, 2**32), entry(9), entry(4, 2**32 - 1), entry(7, 3), entry(8, 9)]
+    s = some(3) + sum(rows, [])
+    for i in (*range(8), 2**61 - 2, 2**61 - 1, 2**61, TOP - 1, TOP):
+        case("row_entry", 3, i, s=s)
+        case("row_entry", 4, i, s=s)
+    for first in len(s) - 8, len(s) - 7, len(s), TOP - 8, TOP - 7, TOP:
+        for i in 0, 1:
+            case("row_entry", first, i, s=s)
+            case("read_entries", first, i, s=s)
+    for good in range(7):
+        clean = some(3) + sum([DYN, EXTERNAL, BLOCK, entry(8, 2**60 - 1), JOIN, entry(5, 7)][:good], [])
+        for n in (*range(good + 2), TOP):  # to the file's end, and past it
+            case("read_entries", 3, n, s=clean)
+        case("read_entries", 3, good, s=clean[:-1])
+    for tag in range(16):
+        for payload in 2**32 - 1, 2**32:
+            case("read_entries", 0, 3, s=DYN + entry(tag, payload) + EXTERNAL)
+    for n in 2, 3, TOP:
+        case("read_entries", 3, n, s=s)
+        case("read_entries", TOP - 15, n, s=s)
+
+
+def readers_by_index():
+    made = dict(nodes=3, roots=2, roots_at=5, entries_at=13)
+
+    def both(s, i, **fields):
+        f = made | fields
+        for name in "read_procedure_root_at", "read_node_entry_at":
+            case(name, f["nodes"], 2, 1, f["roots"], f["roots_at"], 16, 1, f["entries_at"], 41,
+                 *rng.choice(((0, 0), (1, 73))), 73, i, s=s)
+
+    rows = [EXTERNAL, entry(9), entry(3, 2**32)]
+    s = some(5) + [2, 0, 0, 0, 3, 0, 0, 0] + sum(rows, [])
+    for i in 0, 1, 2, 3, 4, TOP - 1, TOP:
+        both(s, i)
+        both(s, i, nodes=TOP, roots=TOP)
+        both(s, i, nodes=0, roots=0)
+        both(s, i, roots_at=len(s) - 4 * min(i, 9), entries_at=len(s) - 8 * min(i, 4))
+        both(s, i, roots_at=len(s) - 4 * min(i, 8) - 4, entries_at=len(s) - 8 * min(i, 3) - 8)
+        both(s, i, roots_at=len(s) - 4 * min(i, 8) - 3, entries_at=len(s) - 8 * min(i, 3) - 7)
+        for d in -1, 0, 1:  # a row that ends beside 2 ** 64 - 1
+            both(s, i, nodes=TOP, roots=TOP, roots_at=max(TOP - 4 - 4 * i + d, 0),
+                 entries_at=max(TOP - 8 - 8 * i + d, 0))
+    for i in 2**61 - 2, 2**61 - 1, 2**61, 2**62 - 2, 2**62 - 1, 2**62:
+        for at in 0, 3, 4, 7, 8:
+            both(s, i, nodes=TOP, roots=TOP, roots_at=at, entries_at=at)
+    for id in 0, 1, 2, 3, 2**31, 2**32 - 1:  # ROOT-ID at the node count
+        for nodes in {0, id, id + 1, 2**32, TOP}:
+            both(list(id.to_bytes(4, "little")) + EXTERNAL, 0, nodes=nodes, roots_at=0, entries_at=4)
+    for tag in range(16):
+        for payload in 2**32 - 1, 2**32:
+            both(entry(tag, payload), 0, entries_at=0, roots_at=4)
+    for _ in range(60):
+        both(some(rng.randrange(40)), rng.choice((0, 1, 2, number())), nodes=number(), roots=number(),
+             roots_at=rng.choice((rng.randrange(40), number())), entries_at=rng.choice((rng.randrange(40), number())))
+
+
+def well_covered():
+    """Each line of the scan's table refuses two files or more, one by the least that can be, and is passed
+    by one at the limit itself. (4 x roots is never 2 ** 64 - 1: the nearest is 3 below.)"""
+    excesses = {}
+    for name, args, s in cases:
+        for line, _, _, excess in looked_at(s, args) if name == "scan_layout" else ():
+            excesses.setdefault(line, []).append(excess)
+    assert len(excesses.pop(None)) > 100 and len(excesses) == 26
+    for line, seen in excesses.items():
+        assert sum(x > 0 for x in seen) > 1 and 1 in seen and (-3 if line == "OVERFLOW roots" else 0) in seen, line
+
+
+# what each entry point over a file has to say: 0 where it accepts, and every refusal that it has
+SAID = {
+    "scan_layout": {0, *range(SHORT, EXTERNALS + 1), FORMAT},
+    "read_procedure_root_at": {0, SHORT, OVERFLOW, INDEX, ROOT_ID},
+    "read_node_entry_at": {0, SHORT, OVERFLOW, TAG, PAYLOAD, INDEX},
+    "row_entry": {0, SHORT, OVERFLOW, TAG, PAYLOAD},
+    "read_entries": {0, SHORT, OVERFLOW, TAG, PAYLOAD},
+    "row_place": {0, OVERFLOW},
+}
+
+
 def main(oracle, model_folder):
     sys.dont_write_bytecode = True
     sys.path.insert(0, model_folder)
     import model
     by_model = modelled(model)
-    for make in bench, numbers, counts, words, entries:
+    for make in (bench, numbers, counts, words, entries, bench_files, headers, sizes, sections,
+                 entries_of_files, many_entries, random_files, rows_by_number, readers_by_index):
         make()
-    commands = [command(name, s, args) for name, args, s in cases]
-    asked = "".join(c + "\n" for c in commands if c)
-    run = subprocess.run([oracle], input=asked, capture_output=True, text=True, check=True)
+    well_covered()
+    answers = [POINTS[name](s, *args) for name, args, s in cases]
+    for point, numbers_said in SAID.items():
+        assert {a[0] for (name, *_), a in zip(cases, answers) if name == point} == numbers_said, point
+    asked = [commands(name, s, args, answer) for (name, args, s), answer in zip(cases, answers)]
+    text = "".join(c + "\n" for case in asked for c in case)
+    run = subprocess.run([oracle], input=text, capture_output=True, text=True, check=True)
     replies = iter(run.stdout.splitlines())
     names = list(POINTS)
     lines, seen, sources = [], dict.fromkeys(names, 0), {}
-    for (name, args, s), asked in zip(cases, commands):
-        answer, source = POINTS[name](s, *args), "document 01"
+    for (name, args, s), answer, ask in zip(cases, answers, asked):
+        source = "document 01"
         if name in by_model:
             assert by_model[name](s, *args) == answer, (name, args, s)
             source = "model.py"
-        if asked:
-            reply = said(name, args, next(replies))
+        replied = [next(replies) for _ in ask]
+        if ask:
+            reply = said_of_rows(s, args, replied) if name == "read_entries" else said(name, args, replied[-1])
             # the shim says a count's value alone
             assert reply == (answer[:2] if name == "read_count" else answer), (name, args, s, reply, answer)
             source = source if name == "read_count" else "the published Rust"

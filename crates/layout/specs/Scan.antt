@@ -123,7 +123,7 @@ module _ (f : FormatFacts) (s : List ℕ) where
         ∷ shortRule s rootRows (4 * roots .value)
         ∷ countRule s blocksAt
         ∷ rule OVERFLOW blocksAt (over sectionBytes)
-        ∷ rule BUDGET blocksAt (overBudget (left bound blockData) 1 (blocks .value))
+        ∷ rule BUDGET blocksAt (overBudget (left bound blockData) 1 sectionBytes)
         ∷ shortRule s blockData sectionBytes
         ∷ wordsRules 8 entriesAt words
         ++ (rule EXTERNALS externalAt (not (eqb (externals words) (external .value))) ∷ [])

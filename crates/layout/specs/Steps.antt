@@ -60,7 +60,7 @@ rootRules bound start count at s =
 unfoldable pub sectionRules : Bound → ℕ → ℕ → ℕ → ℕ → List ℕ → List Rule
 sectionRules bound start count at fixed s =
     rule OVERFLOW start (over (count + fixed))
-    ∷ rule BUDGET start (overBudget bound 1 count)
+    ∷ rule BUDGET start (overBudget bound 1 (count + fixed))
     ∷ shortRule s at (count + fixed)
     ∷ []
 

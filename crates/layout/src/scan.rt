@@ -169,7 +169,7 @@ fn check_sections(bound: Bound, start: ByteOffset, blocks: Section, fixed: usize
     if MAX - blocks.count < fixed {
         return Check::Refused(Refusal::Overflow, start);
     }
-    if over_budget(bound, 1, blocks.count) {
+    if over_budget(bound, 1, blocks.count + fixed) {
         return Check::Refused(Refusal::Budget, start);
     }
     if is_short(s, at, blocks.count + fixed) {

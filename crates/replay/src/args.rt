@@ -10,13 +10,17 @@ pub(crate) fn arg(args: &[u64], i: usize) -> u64 {
     0
 }
 
-fn offset(x: u64) -> ByteOffset {
-    ByteOffset(x as usize)
+pub(crate) fn size(args: &[u64], i: usize) -> usize {
+    arg(args, i) as usize
+}
+
+pub(crate) fn offset(args: &[u64], i: usize) -> ByteOffset {
+    ByteOffset(size(args, i))
 }
 
 // A place comes first.
 pub(crate) fn place(args: &[u64]) -> ByteOffset {
-    offset(arg(args, 0))
+    offset(args, 0)
 }
 
 // The word from an index on.

@@ -109,7 +109,7 @@ fn judge_case(point: u64, args: &[u64], input: &[u64], recorded: &[u64]) -> Verd
     if args.len() != arity(point) {
         return Verdict::Unreadable;
     }
-    let mut bytes = [0u8; 8192];
+    let mut bytes = [0u8; 40960];
     let stored = store(input, &mut bytes);
     if !stored.whole {
         return Verdict::Unreadable;
@@ -142,7 +142,7 @@ fn judge_numbers(t: &[u64]) -> Verdict {
 
 // What becomes of a line.
 pub(crate) fn judge(line: &[u8]) -> Verdict {
-    let mut numbers = [0u64; 32768];
+    let mut numbers = [0u64; 65536];
     let read = numbers_of(line, &mut numbers);
     if !read.whole {
         return Verdict::Unreadable;

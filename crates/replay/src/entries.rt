@@ -17,7 +17,7 @@ fn entry_row(kind: u64, first: u32, second: u32) -> Row {
     Row::of(0).then(kind).then(first as u64).then(second as u64)
 }
 
-fn row_of_entry(entry: MastNodeEntry) -> Row {
+pub(crate) fn row_of_entry(entry: MastNodeEntry) -> Row {
     match entry {
         MastNodeEntry::Join {
             left_child_id,

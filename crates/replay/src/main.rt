@@ -9,7 +9,7 @@
 // points.rt has the entry points with their arguments, row.rt what an answer is. After an answer's
 // own numbers come the bytes that were lent, whole, where an entry point writes.
 //
-// Limits: 1,048,576 bytes of text, 32,768 numbers in a line, 8,192 bytes of a case. What is longer is
+// Limits: 2,097,152 bytes of text, 65,536 numbers in a line, 40,960 bytes of a case. What is longer is
 // printed as such, and so is every line that cannot be read: none is passed over.
 use libc::STDIN_FILENO;
 use libc::STDOUT_FILENO;
@@ -18,10 +18,13 @@ mod args;
 mod case;
 mod counts;
 mod entries;
+mod facts;
+mod forests;
 mod numbers;
 mod points;
 mod report;
 mod row;
+mod sections;
 mod text;
 mod words;
 
@@ -47,17 +50,17 @@ fn replay(text: &[u8]) {
 
 // Room for the text. A function of its own, so that a proof knows the array by its length alone: its
 // zeros are too many to look at.
-fn room() -> [u8; 1048577] {
-    [0; 1048577]
+fn room() -> [u8; 2097153] {
+    [0; 2097153]
 }
 
 fn main() {
     let mut text = room();
     let n = io::read_full(STDIN_FILENO, &mut text);
-    if n == 1048577 {
+    if n == 2097153 {
         io::write_all(
             STDOUT_FILENO,
-            b"more than 1048576 bytes: nothing replayed\n",
+            b"more than 2097152 bytes: nothing replayed\n",
         );
         return;
     }

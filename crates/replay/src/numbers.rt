@@ -1,6 +1,7 @@
 // Refusal numbers, and little-endian numbers.
 use crate::args::arg;
 use crate::args::place;
+use crate::args::size;
 use crate::row::Row;
 use wire::number::NumberRead;
 use wire::number::is_short;
@@ -51,12 +52,8 @@ pub(crate) fn refusal_number_row(args: &[u64]) -> Row {
     Row::of(refusal_number(refusal(i)) as u64)
 }
 
-fn size(x: u64) -> usize {
-    x as usize
-}
-
 pub(crate) fn is_short_row(args: &[u64], s: &[u8]) -> Row {
-    Row::of_bool(is_short(s, place(args), size(arg(args, 1))))
+    Row::of_bool(is_short(s, place(args), size(args, 1)))
 }
 
 pub(crate) fn u32_at_row(args: &[u64], s: &[u8]) -> Row {

@@ -3,11 +3,14 @@
 // and to the names in report.rt.
 use crate::counts;
 use crate::entries;
+use crate::facts;
+use crate::forests;
 use crate::numbers;
 use crate::row::Row;
+use crate::sections;
 use crate::words;
 
-pub(crate) const LAST: u64 = 17;
+pub(crate) const LAST: u64 = 24;
 
 pub(crate) fn is_known(point: u64) -> bool {
     if point < 1 {
@@ -20,11 +23,17 @@ pub(crate) fn is_known(point: u64) -> bool {
 pub(crate) fn arity(point: u64) -> usize {
     match point {
         // a place of the input bytes, and how many from there; a place, and what to write there
-        2 | 9 => 2,
+        // the first row's place, and a row's number or how many rows
+        2 | 9 | 20 | 21 => 2,
         // two words
         14 => 8,
         // a kind and two ids, 0 where the kind has none
-        16 => 3,
+        // the first row's place, the size of a row, its number
+        16 | 19 => 3,
+        // facts
+        18 => 10,
+        // facts, whether hashless is allowed, and a bound; a layout record and an index
+        22 | 23 | 24 => 13,
         // a refusal, a number, an element or an entry's word; else a place of the input bytes
         _ => 1,
     }
@@ -55,6 +64,13 @@ pub(crate) fn run(point: u64, args: &[u64], s: &mut [u8]) -> Row {
         15 => entries::decode_entry_row(args),
         16 => entries::encode_entry_row(args),
         17 => entries::read_entry_row(args, s),
+        18 => facts::bad_format_row(args),
+        19 => sections::row_place_row(args),
+        20 => sections::row_entry_row(args, s),
+        21 => sections::read_entries_row(args, s),
+        22 => forests::scan_layout_row(args, s),
+        23 => forests::root_at_row(args, s),
+        24 => forests::entry_at_row(args, s),
         _ => Row::none(),
     }
 }

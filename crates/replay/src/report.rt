@@ -11,7 +11,8 @@ fn print_number(n: u64) {
     io::print_decimal(STDOUT_FILENO, n);
 }
 
-fn print_name(point: u64) {
+// The names in three parts: matches of few arms are proved sooner than one of many.
+fn print_number_name(point: u64) {
     match point {
         1 => print(b"refusal_number"),
         2 => print(b"is_short"),
@@ -21,7 +22,12 @@ fn print_name(point: u64) {
         6 => print(b"read_u64"),
         7 => print(b"read_count"),
         8 => print(b"shortest_len"),
-        9 => print(b"write_count"),
+        _ => print(b"write_count"),
+    }
+}
+
+fn print_word_name(point: u64) {
+    match point {
         10 => print(b"is_element"),
         11 => print(b"word_at"),
         12 => print(b"check_word"),
@@ -29,8 +35,28 @@ fn print_name(point: u64) {
         14 => print(b"word_order"),
         15 => print(b"decode_entry"),
         16 => print(b"encode_entry"),
-        17 => print(b"read_entry"),
-        _ => print(b"total"),
+        _ => print(b"read_entry"),
+    }
+}
+
+fn print_forest_name(point: u64) {
+    match point {
+        18 => print(b"bad_format"),
+        19 => print(b"row_place"),
+        20 => print(b"row_entry"),
+        21 => print(b"read_entries"),
+        22 => print(b"scan_layout"),
+        23 => print(b"read_procedure_root_at"),
+        _ => print(b"read_node_entry_at"),
+    }
+}
+
+fn print_name(point: u64) {
+    match point {
+        0 => print(b"total"),
+        1..=9 => print_number_name(point),
+        10..=17 => print_word_name(point),
+        _ => print_forest_name(point),
     }
 }
 

@@ -54,7 +54,16 @@ impl Row {
     }
 
     pub(crate) fn of_refusal(why: Refusal, at: ByteOffset) -> Row {
-        Row::of(refusal_number(why) as u64).then_place(at)
+        Row::of_refused_row(why, at.0)
+    }
+
+    // The place is the number of a row.
+    pub(crate) fn of_refused_row(why: Refusal, i: usize) -> Row {
+        Row::none().then_refused_row(why, i)
+    }
+
+    pub(crate) fn then_refused_row(self, why: Refusal, i: usize) -> Row {
+        self.then(refusal_number(why) as u64).then_size(i)
     }
 }
 

@@ -29,6 +29,7 @@ check-sections-spec =
     (tie.spec
     (λ c. search needs)
     returns
+    (λ c. search needs)
     (λ c κs. search needs)
     returns-2
     (λ c. search needs)

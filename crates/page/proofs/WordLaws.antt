@@ -1,0 +1,93 @@
+-- The laws of words: a word of digits read on from a place, and the first wrong word.
+-- Assumes nothing.
+use mathlib.Core.Path.{_≡_, refl, sym, ap, _∙_}
+use mathlib.Core.Bool.{Bool, true, false, _||_}
+use mathlib.Core.List.{List, [], _∷_}
+use Prim.Native.Nat.{ℕ, zero, suc, _+_, _*_, _^_, _≤_, _<_}
+use native.Mathlib.Omega.{arith}
+use native.Mathlib.Numerals.{add-one}
+use borrow.Author.Tests.{le-leb, lt-leb, eq-eqb, ne-eqb}
+use lib.Dec.{leb, eqb}
+use lib.ListN.{length, getD, drop, drop-of-length-le}
+use lib.Seq.{drop-cons}
+use Rattle.layout.specs.declared.facts.FormatFacts.{FormatFacts}
+use Rattle.page.specs.Words.{hexDigit, notHex, hexWrong, decimalDigit, numberFrom, numberOfWord, noFacts, factsOf, wordsCheck, factsBeside}
+use Rattle.page.specs.declared.words.NumberWord.{NumberWord}
+use Rattle.page.specs.declared.words.NumberWord.the-variants as number
+use Rattle.page.specs.declared.words.WordsCheck.{WordsCheck}
+use Rattle.page.specs.declared.words.WordsCheck.the-variants.{Taken, Wrong}
+use Rattle.page.specs.declared.words.FactsRead.{FactsRead}
+
+-- ---- hexadecimal
+
+module _ (word : List ℕ) (digits : ℕ) where
+  pub other-length : (length word ≡ digits → ⊥) → hexWrong digits word ≡ true
+  unfolding hexWrong
+  other-length h = rw (ne-eqb (length word) digits h)
+
+  pub right-length : length word ≡ digits → hexWrong digits word ≡ notHex word
+  unfolding hexWrong
+  right-length h = rw (eq-eqb (length word) digits h)
+
+module _ (word : List ℕ) (i d : ℕ) (inside : i < length word) (says : d ≡ hexDigit (getD word i 0)) where
+  pub no-hex-here : 16 ≤ d → notHex (drop i word) ≡ true
+  unfolding notHex
+  no-hex-here h = rw (drop-cons word i 0 inside, sym says, le-leb 16 d h)
+
+  pub hex-here : d < 16 → notHex (drop i word) ≡ notHex (drop (i + 1) word)
+  unfolding notHex
+  hex-here h = rw (drop-cons word i 0 inside, sym says, lt-leb 16 d h, add-one)
+
+pub hex-end : (word : List ℕ) (i : ℕ) → length word ≤ i → notHex (drop i word) ≡ false
+unfolding notHex
+hex-end word i h = rw (drop-of-length-le word h)
+
+-- ---- decimal
+
+pub no-word : (word : List ℕ) → length word ≡ 0 → numberOfWord word ≡ number.Wrong
+unfolding numberOfWord
+no-word [] h = refl
+no-word (b ∷ word) h = absurd (omega arith)
+
+pub some-word : (word : List ℕ) → (length word ≡ 0 → ⊥) → numberOfWord word ≡ numberFrom 0 word
+unfolding numberOfWord
+some-word [] h = absurd (h refl)
+some-word (b ∷ word) h = refl
+
+module _ (word : List ℕ) (i value d : ℕ) (inside : i < length word) (says : d ≡ decimalDigit (getD word i 0)) where
+  pub no-digit-here : 10 ≤ d → numberFrom value (drop i word) ≡ number.Wrong
+  unfolding numberFrom
+  no-digit-here h = rw (drop-cons word i 0 inside, sym says, le-leb 10 d h)
+
+  pub too-large : d < 10 → 2 ^ 64 ≤ 10 * value + d → numberFrom value (drop i word) ≡ number.Wrong
+  unfolding numberFrom
+  too-large h g = rw (drop-cons word i 0 inside, sym says, lt-leb 10 d h, le-leb (2 ^ 64) (10 * value + d) g)
+
+  pub digit-here : d < 10 → 10 * value + d < 2 ^ 64 → numberFrom value (drop i word) ≡ numberFrom (10 * value + d) (drop (i + 1) word)
+  unfolding numberFrom
+  digit-here h g = rw (drop-cons word i 0 inside, sym says, lt-leb 10 d h, lt-leb (2 ^ 64) (10 * value + d) g, add-one)
+
+pub number-end : (word : List ℕ) (i value : ℕ) → length word ≤ i → numberFrom value (drop i word) ≡ number.Number value
+unfolding numberFrom
+number-end word i value h = rw (drop-of-length-le word h)
+
+-- ---- the facts beside an answer
+
+module _ (magic version hashless reserved most : List ℕ) where
+  abbrev said : WordsCheck
+  said = wordsCheck magic version hashless reserved most
+
+  abbrev beside : FormatFacts
+  beside = factsBeside magic version hashless reserved most
+
+  pub wrong-facts : (k : ℕ) (r : FactsRead) → (r .answer ≡ Wrong k) × (r .facts ≡ noFacts) → Wrong k ≡ said → (r .answer ≡ said) × (r .facts ≡ beside)
+  unfolding factsBeside
+  wrong-facts k r h e = (h .0 ∙ e, h .1 ∙ rw (sym e))
+
+  -- no word is wrong
+  pub taken-facts : (n : ℕ) (f : FormatFacts) (b d h r : Bool) → b ≡ hexWrong 8 magic → d ≡ hexWrong 6 version → h ≡ hexWrong 2 hashless → r ≡ hexWrong 2 reserved →
+      b ≡ false → d ≡ false → h ≡ false → r ≡ false → number.Number n ≡ numberOfWord most → f ≡ factsOf magic version hashless reserved n →
+      (Taken ≡ said) × (f ≡ beside)
+  unfolding wordsCheck factsBeside
+  taken-facts n f b d h r eb ed eh er b′ d′ h′ r′ o e =
+      (rw (sym eb ∙ b′, sym ed ∙ d′, sym eh ∙ h′, sym er ∙ r′, sym o), e ∙ rw (sym eb ∙ b′, sym ed ∙ d′, sym eh ∙ h′, sym er ∙ r′, sym o))

@@ -1,0 +1,65 @@
+-- `page::answer::layout_page` meets its contract: the text of what the size, the scan and the walk said.
+-- Assumes nothing.
+use mathlib.Core.Path.{sym, ap, _∙_}
+use borrow.Author.Needs.{needs}
+use denote.Ref.{now}
+use lib.ListN.{length}
+use Rattle.layout.specs.Shown.{shownScan}
+use Rattle.page.specs.Text.{textOutcome, withText}
+use Rattle.page.proofs.AnswerLaws.{too-long, too-long-keys, scan-refused, scan-refused-keys, scan-accepted, scan-accepted-keys}
+use Rattle.page.proofs.answer.layout_page.Statement.{statement}
+use Rattle.page.proofs.answer.layout_page.Tie as tie
+
+returns : tie.Need-returns
+returns c =
+    let w = c .before .before in
+    let i = w .before .before in
+    let a = i .before .before .before .before .args in
+    let e = too-long (a .f) (now (a .s)) (i .if1 .taken) (length (now (a .keys))) in (
+      w .write-refusal .ensures .0 ∙ ap (textOutcome (now (a .out))) e,
+      (w .write-refusal .ensures .1 ∙ ap (withText (now (a .out))) e, too-long-keys (a .f) (now (a .s)) (i .if1 .taken) (now (a .keys))),
+    )
+
+returns-2 : tie.Need-returns-2
+returns-2 c =
+    let w = c .before .before in
+    let y = w .before .before .before in
+    let k = y .before .before in
+    let i = k .before in
+    let a = i .before .before .before .before .args in
+    let said = ap shownScan (sym (y .why .given .1)) ∙ k .scan-layout .ensures in
+    let e = scan-refused (a .f) (now (a .s)) (i .if1 .left) _ _ (length (now (a .keys))) said in (
+      w .write-refusal2 .ensures .0 ∙ ap (textOutcome (now (a .out))) e,
+      (w .write-refusal2 .ensures .1 ∙ ap (withText (now (a .out))) e, scan-refused-keys (a .f) (now (a .s)) (i .if1 .left) _ _ (now (a .keys)) said),
+    )
+
+returns-3 : tie.Need-returns-3
+returns-3 c =
+    let m = c .before .before .before .before in
+    let y = m .before .before .before .before in
+    let k = y .before .before in
+    let i = k .before in
+    let a = i .before .before .before .before .args in
+    let said = ap shownScan (sym (y .l .given .1)) ∙ k .scan-layout .ensures in
+    let e = scan-accepted (a .f) (now (a .s)) (i .if1 .left) _ (length (now (a .keys))) said in (
+      m .map-page .ensures .0 ∙ ap (textOutcome (now (a .out))) e,
+      (m .map-page .ensures .1 .0 ∙ ap (withText (now (a .out))) e, m .map-page .ensures .1 .1 ∙ scan-accepted-keys (a .f) (now (a .s)) (i .if1 .left) _ (now (a .keys)) said),
+    )
+
+pub layout-page-spec : {M : Type 1} → statement M
+layout-page-spec =
+    tie.close
+    (tie.spec
+    (λ c κs. search needs)
+    (λ c. search needs)
+    returns
+    (λ c κs. search needs)
+    (λ c. search needs)
+    (λ c κs. search needs)
+    (λ c. search needs)
+    (λ c κs. search needs)
+    (λ c. search needs)
+    returns-2
+    (λ c. search needs)
+    (λ c. search needs)
+    returns-3)
