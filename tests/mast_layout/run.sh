@@ -105,6 +105,7 @@ zeros more 1
 says '65,537 bytes' more 0 "refused 20 at 65536$newline"
 : >"$work/nothing"
 says 'nothing' nothing 0 "refused 1 at 0$newline"
+says 'a directory, which cannot be read' . 1 ''
 
 says 'the stand-in facts as words' p10 0 "$page" 4D415354 000002 02 FC 1073741823
 says 'digits of the other case' p10 0 "$page" 4d415354 000002 02 fc 1073741823

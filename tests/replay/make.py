@@ -26,6 +26,12 @@ bad_format takes facts; scan_layout facts, whether hashless is allowed, and a bo
 index a layout and the index; row_place a section's place, the size of a row and its number, and answers
 0 and the row's place, or OVERFLOW alone; row_entry and read_entries the first row's place, and a row's
 number or how many rows. read_entries answers twice, by the quick pass and then by the plain one.
+digest_place takes a section's place and a slot; the digest readers a layout and the index, and answer
+with the word after the rest, zeros where refused; the checks a layout; build_slots a layout and a bound,
+and answers what is left of it; walk_map a place, and answers the number of entries and the end; lookup
+and values how many of the table's offsets, and a key: 0, the values' place, their number and the keys
+compared, or 0 and the keys compared, where it is absent; and the values' bytes with their number before.
+A lent table follows the arguments of build_slots, digest_with_table, walk_map, lookup and values.
 
 Each answer has up to three sources, which have to agree: the published Rust, model.py, and the plain
 statement of document 01 in this file. What is counted as a line's source is the first of the three
@@ -41,7 +47,7 @@ MODULUS = 2**64 - 2**32 + 1
 FAR = (2**63, TOP - 7, TOP)  # places that no file reaches
 (SHORT, MAGIC, VERSION, FLAGS, HASHLESS, OVERFLOW, TOO_MANY, BUDGET, TAG, PAYLOAD, EXTERNALS, INDEX,
  ROOT_ID) = range(1, 14)
-ELEMENT, ROOM, FORMAT = 18, 20, 21
+NO_HASH, CHILD_RANGE, FORWARD, ORDER, ELEMENT, DUPLICATE, ROOM, FORMAT, NOT_CANONICAL = range(14, 23)
 KINDS = "Join Split Loop Block Call SysCall Dyn Dyncall External".split()
 REFUSALS = ("SHORT MAGIC VERSION FLAGS HASHLESS OVERFLOW TOO-MANY BUDGET TAG PAYLOAD EXTERNALS INDEX "
             "ROOT-ID NO-HASH CHILD-RANGE FORWARD ORDER ELEMENT DUPLICATE ROOM FORMAT NOT-CANONICAL "
@@ -267,6 +273,177 @@ def entry_at(s, *args):
     return [INDEX, args[12]] if args[0] <= args[12] else row_entry(s, args[7], args[12])
 
 
+def digest_in(s, args, external, slot):
+    """The digest in a slot of the section of a kind."""
+    i = args[12]
+    if not external and not args[9]:
+        return [NO_HASH, i, *[0] * 4]
+    number, *at = row_place(s, args[8] if external else args[10], 32, slot)
+    if number:
+        return [number, i, *[0] * 4]
+    number, _, *word = read_word(s, *at)
+    return [number, *([] if number == 0 else [i]), *word]
+
+
+def digest_by_counting(s, *args):
+    i = args[12]
+    if args[0] <= i:
+        return [INDEX, i, *[0] * 4]
+    kinds = []
+    for j in range(i + 1):
+        number, kind, *_ = row_entry(s, args[7], j)
+        if number:
+            return [number, kind, *[0] * 4]
+        kinds.append(kind == 8)
+    return digest_in(s, args, kinds[i], kinds[:i].count(kinds[i]))
+
+
+def digest_with_table(s, *args):
+    i, table = args[12], args[13:]
+    if args[0] <= i:
+        return [INDEX, i, *[0] * 4, *table]
+    if len(table) < args[0]:
+        return [ROOM, i, *[0] * 4, *table]
+    number, kind, *_ = row_entry(s, args[7], i)
+    if number:
+        return [number, kind, *[0] * 4, *table]
+    return [*digest_in(s, args, kind == 8, table[i]), *table]
+
+
+def build_slots(s, *args):
+    nodes, (is_bound, bound), table = args[0], args[12:14], args[14:]
+    if nodes > 2**30:
+        return [TOO_MANY, 0, *table]
+    if is_bound and bound < 4 * nodes:
+        return [BUDGET, 0, *table]
+    if len(table) < nodes:
+        return [ROOM, 0, *table]
+    slots, seen = [], [0, 0]
+    for i in range(nodes):
+        number, kind, *_ = row_entry(s, args[7], i)
+        if number:
+            return [number, kind, *table]
+        slots.append(seen[kind == 8])
+        seen[kind == 8] += 1
+    left = (1, bound - 4 * nodes) if is_bound else (0, 0)
+    return [0, *left, *slots, *table[nodes:]]
+
+
+def each_node(judge):
+    """A check of all nodes: `judge` has the number of a refusal or 0."""
+    def check(s, *args):
+        before = []
+        for i in range(args[0]):
+            number, *entry = row_entry(s, args[7], i)
+            if number:
+                return [number, i]
+            at = args[7] + 8 * i
+            number = judge(i, args[0], entry, before, s[at:at + 8])
+            if number:
+                return [number, i]
+            before.append(entry)
+        return [0]
+    return check
+
+
+def children_of(kind, left, right):
+    return {0: [left, right], 1: [left, right], 2: [left], 4: [left], 5: [left]}.get(kind, [])
+
+
+def judge_children(i, nodes, entry, before, row):
+    for child in children_of(*entry):
+        if child >= nodes:
+            return CHILD_RANGE
+        if child >= i:
+            return FORWARD
+    return 0
+
+
+def judge_order(i, nodes, entry, before, row):
+    def rank(kind):
+        return {8: 0, 3: 1}.get(kind, 2)
+    return ORDER if before and rank(entry[0]) < rank(before[-1][0]) else 0
+
+
+def judge_strict(i, nodes, entry, before, row):
+    return 0 if encode_entry([], *entry)[1] == le(row) else NOT_CANONICAL
+
+
+def map_values(s, length_at):
+    """The length and the values there: a refusal, or 0, their place and their number."""
+    read = read_count(s, length_at)
+    if read[0]:
+        return read
+    _, length, _, at = read
+    if over(8 * length) > 0:
+        return [OVERFLOW, length_at]
+    return [SHORT, at] if is_short(s, at, 8 * length) else [0, at, length]
+
+
+def walk(s, at, room):
+    """The key offsets by rising keys and the end; or the number of a refusal and its place."""
+    read = read_count(s, at)
+    if read[0]:
+        return read
+    _, n, _, at = read
+    seen = {}
+    for _ in range(n):
+        if len(seen) == room:
+            return [ROOM, at]
+        read = check_word(s, at)
+        if read[0]:
+            return read
+        number, *values = map_values(s, at + 32)
+        if number:
+            return [number, *values]
+        key = tuple(word_at(s, at))
+        if key in seen:
+            return [DUPLICATE, at]
+        seen[key] = at
+        at = values[0] + 8 * values[1]
+    return [0, [seen[key] for key in sorted(seen)], at]
+
+
+def walk_map(s, at, *table):
+    number, *rest = walk(s, at, len(table))
+    if number:
+        return [number, *rest, *[0] * len(table)]
+    keys, end = rest
+    return [0, len(keys), end, *keys, *table[len(keys):]]
+
+
+def lookup(s, n, *args):
+    key, table = args[:4], args[4:]
+    if len(table) < n:
+        return [ROOM, n]
+    low, size, compared = 0, n, 0
+    while size:
+        middle = low + size // 2
+        at = table[middle]
+        if is_short(s, at, 32):
+            return [SHORT, at]
+        compared += 1
+        there = tuple(word_at(s, at))
+        if key == there:
+            number, *values = map_values(s, at + 32)
+            if number:
+                return [number, *values]
+            for place in range(values[0], values[0] + 8 * values[1], 8):
+                if le(s[place:place + 8]) >= MODULUS:
+                    return [ELEMENT, place]
+            return [0, *values, compared]
+        low, size = (low, size // 2) if key < there else (middle + 1, size - size // 2 - 1)
+    return [0, compared]
+
+
+def values(s, *args):
+    answer = lookup(s, *args)
+    if answer[0] or len(answer) == 2:
+        return [0]
+    _, at, n, _ = answer
+    return [8 * n, *s[at:at + 8 * n]]
+
+
 POINTS = {
     "refusal_number": lambda s, i: [i],
     "is_short": lambda s, at, n: [int(is_short(s, at, n))],
@@ -292,6 +469,16 @@ POINTS = {
     "scan_layout": scan_layout,
     "read_procedure_root_at": root_at,
     "read_node_entry_at": entry_at,
+    "digest_place": lambda s, section, slot: row_place(s, section, 32, slot),
+    "digest_by_counting": digest_by_counting,
+    "check_children": each_node(judge_children),
+    "check_order": each_node(judge_order),
+    "check_strict": each_node(judge_strict),
+    "build_slots": build_slots,
+    "digest_with_table": digest_with_table,
+    "walk_map": walk_map,
+    "lookup": lookup,
+    "values": values,
 }
 
 # ---- the model, where it has the entry point
@@ -353,7 +540,55 @@ def modelled(model):
         except model.Refused as r:  # SHORT: the row is none of the file's, and has a place
             return [0, section + size * i] if r.number == SHORT else [r.number]
 
+    def digest(s, args, *table):
+        word = model.digest(s, layout(args), args[12], *table)
+        return [0, *(model.le(word[k:k + 8]) for k in (0, 8, 16, 24))]
+
+    def zeroed(f, table_at):
+        """A refused digest has zeros beside it, and after both comes the table."""
+        def answer(s, *args):
+            said = refusing(f)(s, *args)
+            return [*said, *([0] * 4 if said[0] else []), *args[table_at:]]
+        return answer
+
+    def slots(s, *args):
+        lay, table = layout(args), list(args[14:])
+        bound = args[13] if args[12] else None
+        model.need(lay.nodes <= 2**30, TOO_MANY, 0)
+        model.need(bound is None or bound >= 4 * lay.nodes, BUDGET, 0)
+        model.need(lay.nodes <= len(table), ROOM, 0)  # the model lends no table
+        rows, left = model.slots(s, lay, bound)
+        return [0, *((0, 0) if left is None else (1, left)), *rows, *table[lay.nodes:]]
+
+    def slots_or_table(s, *args):
+        said = refusing(slots)(s, *args)
+        return [*said, *args[14:]] if said[0] else said
+
+    def checks(check):
+        return refusing(lambda s, *args: [0, *(check(s, layout(args)) or ())])
+
+    def strict(s, lay):
+        for i in range(lay.nodes):
+            kind, ids = model.node(s, lay, i)
+            at = lay.entries_at + 8 * i
+            model.need(model.write_entry(kind, ids) == s[at:at + 8], NOT_CANONICAL, i)
+
+    def walked(s, at, *table):
+        rows, end = model.walk(s, at)
+        return [0, len(rows), end, *(row[1] for row in rows), *table[len(rows):]]
+
+    def walked_or_zeros(s, at, *table):
+        said = refusing(walked)(s, at, *table)
+        return [*said, *[0] * len(table)] if said[0] else said
+
     return {
+        "digest_by_counting": zeroed(lambda s, *args: digest(s, args), 13),
+        "digest_with_table": zeroed(lambda s, *args: digest(s, args, args[13:]), 13),
+        "build_slots": slots_or_table,
+        "check_children": checks(model.children),
+        "check_order": checks(model.order),
+        "check_strict": checks(strict),
+        "walk_map": walked_or_zeros,  # the model has all the room that it needs
         "bad_format": lambda s, *facts: [int(refusing(scan)(s, *facts, 1, 0, 0)[0] == FORMAT)],
         "row_place": place,
         "row_entry": refusing(row),
@@ -385,9 +620,13 @@ def scan_command(s, args):
     return [f"format {magic} {version} {hashless} {reserved} {args[9]}", f"scan {args[10]} {bound} {hexed(s)}"]
 
 
-def by_index(what, layout, i, s):
+def by_layout(what, layout, asked, s):
     fields = [*layout[:9], layout[10] if layout[9] else "-", layout[11]]
-    return f"{what} {','.join(map(str, fields))} {i} {hexed(s)}"
+    return f"{what} {','.join(map(str, fields))} {asked} {hexed(s)}"
+
+
+def by_index(what, layout, i, s):
+    return by_layout(what, layout, i, s)
 
 
 def row_command(what, place, i, s):
@@ -427,6 +666,15 @@ def commands(name, s, args, answer):
         return [row_command("node", *args, s)]
     if name == "read_entries" and is_long(s):
         return scan_command(as_file(s, *args), [*FACTS, 1, 0, 0])
+    if name == "build_slots" and answer[0] not in (TOO_MANY, ROOM):
+        return [by_layout("slots", args, str(args[13]) if args[12] else "-", s)]
+    if name == "digest_with_table" and answer[0] != ROOM:  # the Rust takes a shorter table
+        return [by_layout("digest-table", args, f"{','.join(map(str, args[13:])) or '.'} {args[12]}", s)]
+    if name == "digest_by_counting" and answer[0] != NO_HASH and all(
+            row_entry(s, args[7], i)[0] == 0 for i in range(min(args[0], 9))) and args[0] < 9:
+        return [by_layout("digest", args, str(args[12]), s)]  # the Rust reads all entries, and rebuilds hashes
+    if name == "walk_map" and answer[0] != ROOM:
+        return [f"map {args[0]} {hexed(s)}"]
     if name == "read_entries":
         rows = answer[1] + 1 if answer[0] else args[1]
         return [row_command("node", args[0], i, s) for i in range(rows)]
@@ -454,8 +702,19 @@ def said(name, args, answer):
     if name == "row_place":
         return [OVERFLOW]
     if words[0] == "err":
-        return [int(words[1]), at + int(words[3])]
+        beside = {"digest_by_counting": [0] * 4, "digest_with_table": [0] * 4 + args[13:],
+                  "build_slots": args[14:], "walk_map": [0] * len(args[1:])}
+        return [int(words[1]), at + int(words[3]), *beside.get(name, [])]
     assert words[0] == "ok", answer
+    if name == "build_slots":
+        left = (0, 0) if words[2] == "-" else (1, int(words[2]))
+        return [0, *left, *map(int, words[4:]), *args[14 + args[0]:]]
+    if name in ("digest_by_counting", "digest_with_table"):
+        word = bytes.fromhex(words[1])
+        return [0, *(le(word[k:k + 8]) for k in (0, 8, 16, 24)), *args[13:]]
+    if name == "walk_map":
+        keys = [int(w.split(":")[0]) for w in words[6:]]
+        return [0, int(words[2]), int(words[4]), *keys, *args[1 + len(keys):]]
     if name == "scan_layout":
         *fields, hashes, map_at = words[2].split(",")
         return [0, *map(int, fields), *((0, 0) if hashes == "-" else (1, int(hashes))), int(map_at)]
@@ -892,6 +1151,214 @@ def readers_by_index():
              roots_at=rng.choice((rng.randrange(40), number())), entries_at=rng.choice((rng.randrange(40), number())))
 
 
+def laid(rows, hashes=True, **fields):
+    """A file of entries, then a digest for each of them and one more, and its record; `fields` replace the record's numbers."""
+    external = sum(row[7] >> 4 == 8 for row in rows)
+    n = len(rows)
+    before = some(rng.randrange(4))
+    digests_at = len(before) + 8 * n
+    digests = [b for _ in range(n + 1) for x in range(4) for b in (number() % MODULUS).to_bytes(8, "little")]
+    s = before + sum(rows, []) + digests
+    f = dict(nodes=n, internal=n - external, external=external, roots=0, roots_at=0, blocks_at=0, blocks=0,
+             entries_at=len(before), externals_at=digests_at, is_hashed=int(hashes),
+             hashes_at=digests_at + 32 * external if hashes else 0, map_at=len(s)) | fields
+    return s, list(f.values())
+
+
+def some_rows(n, wide=False):
+    """Entries whose children are below them, or wherever."""
+    rows = []
+    for i in range(n):
+        kind = rng.randrange(9) if i else rng.choice((3, 6, 7, 8))
+        top = n + 2 if wide else max(i, 1)
+        ids = [rng.randrange(top), rng.randrange(top)]
+        rows.append(entry(kind, ids[0] * 2**30 + ids[1] if kind < 2 else ids[0] if kind < 6 else 0))
+    return rows
+
+
+BAD = entry(9), entry(15, 2**60 - 1), entry(2, 2**32), entry(5, 2**60 - 1)
+
+
+def slots():
+    for n in range(8):
+        rows = some_rows(n)
+        for room in {n, n + 1, n + 5, max(n - 1, 0), 0}:
+            for bound in (0, 0), (1, 4 * n), (1, 4 * n + 1), (1, max(4 * n - 1, 0)), (1, TOP):
+                s, lay = laid(rows)
+                case("build_slots", *lay, *bound, *(rng.getrandbits(32) for _ in range(room)), s=s)
+    for n in range(1, 6):
+        for bad in BAD:
+            for at in range(n):
+                rows = some_rows(n)
+                rows[at] = bad
+                s, lay = laid(rows, external=rng.randrange(3))
+                case("build_slots", *lay, 0, 0, *[7] * (n + 1), s=s)
+    for nodes in 2**30 + 1, TOP:  # TOO-MANY comes first
+        for bound in (0, 0), (1, 0):
+            s, lay = laid([DYN], nodes=nodes)
+            case("build_slots", *lay, *bound, 5, s=s)
+    for nodes in 2**30, 2**30 - 1, 65:
+        s, lay = laid([DYN], nodes=nodes)
+        case("build_slots", *lay, 0, 0, 5, s=s)
+        case("build_slots", *lay, 1, 4 * nodes - 1, 5, s=s)
+    for at in (*range(14), TOP - 8, TOP - 7, TOP):
+        s, lay = laid([DYN, EXTERNAL], entries_at=at)
+        case("build_slots", *lay, 0, 0, 5, 6, 7, s=s[:18])
+    s, lay = laid([entry(rng.choice((3, 8))) for _ in range(64)])
+    case("build_slots", *lay, 1, 300, *range(64), s=s)
+
+
+def digests():
+    for section in 0, 1, TOP - 32, TOP - 31, TOP:
+        for slot in 0, 1, 2**59 - 1, 2**59, TOP:
+            case("digest_place", section, slot)
+
+    def both(s, lay, i, table):
+        case("digest_by_counting", *lay, i, s=s)
+        case("digest_with_table", *lay, i, *table, s=s)
+
+    def built(s, lay):
+        return build_slots(s, *lay, 0, 0, *[0] * lay[0])[3:]
+
+    for n in range(1, 7):
+        for hashes in True, False:
+            s, lay = laid(some_rows(n), hashes)
+            for i in range(n + 2):
+                both(s, lay, i, built(s, lay))
+            case("digest_with_table", *lay, 0, *built(s, lay)[:-1], s=s)  # ROOM
+            case("digest_with_table", *lay, n, s=s)  # INDEX before ROOM
+            case("digest_with_table", *lay, n - 1, *built(s, lay), 9, 9, s=s)
+    for n in range(1, 5):
+        for bad in BAD:
+            for at in range(n):
+                rows = some_rows(n)
+                rows[at] = bad
+                s, lay = laid(rows)
+                both(s, lay, rng.randrange(n), [0] * n)
+    for row in EXTERNAL, DYN:
+        name = "externals_at" if row is EXTERNAL else "hashes_at"
+        for hashes in True, False:
+            for at in TOP - 32, TOP - 31, TOP, 8, 9:  # OVERFLOW and SHORT of the row
+                s, lay = laid([row], hashes, **{name: at})
+                both(s[:41], lay, 0, [0])
+        for slot in 0, 1, 2, 2**32 - 1:  # a lent slot may be any
+            s, lay = laid([row, row])
+            case("digest_with_table", *lay, 1, 0, slot, s=s)
+        for k in range(4):
+            s, lay = laid([row], entries_at=0)
+            s = list(row) + [b for j in range(4) for b in (MODULUS - (j != k)).to_bytes(8, "little")]
+            lay[8] = lay[10] = 8
+            both(s, lay, 0, [0])
+    for at in 0, 1, TOP - 7, TOP - 8, TOP:
+        s, lay = laid([DYN], entries_at=at)
+        both(s[:8], lay, 0, [0])
+
+
+def node_checks():
+    def all_three(rows, **fields):
+        s, lay = laid(rows, **fields)
+        for name in "check_children", "check_order", "check_strict":
+            case(name, *lay, s=s[:lay[8]])  # no check reads digests
+
+    for n in range(7):
+        for _ in range(6):
+            all_three(some_rows(n))
+            all_three(some_rows(n, wide=True))
+            all_three(sorted(some_rows(n), key=lambda row: {8: 0, 3: 1}.get(row[7] >> 4, 2)))
+    for bad in BAD:
+        for at in range(3):
+            rows = [EXTERNAL, BLOCK, DYN]
+            rows[at] = bad
+            all_three(rows)
+    for kind in range(6):
+        for left in 0, 1, 2, 3:
+            for right in (0, 2, 3) if kind < 2 else (0,):
+                all_three([BLOCK, entry(kind, left * 2**30 + right if kind < 2 else left), DYN])
+    for kind in range(9):  # what a written entry has, and more
+        for payload in 0, 1, 2**30, 2**32 - 1, 2**60 - 1:
+            all_three([entry(kind, payload)])
+    for first in EXTERNAL, BLOCK, DYN, JOIN:
+        for second in EXTERNAL, BLOCK, DYN:
+            all_three([first, second])
+            all_three([EXTERNAL, first, second, EXTERNAL])
+    for at in 0, 9, 10, TOP - 15, TOP - 16, TOP:
+        s, lay = laid([EXTERNAL, BLOCK], entries_at=at)
+        for name in "check_children", "check_order", "check_strict":
+            case(name, *lay, s=s[:18])
+
+
+def map_bytes(entries, size=0):
+    """A map of keys and values; `size` is the count's form."""
+    n = len(entries)
+    s = form(n, size or shortest_len(n))
+    for key, held in entries:
+        s += [b for x in key for b in x.to_bytes(8, "little")] + form(len(held), shortest_len(len(held)))
+        s += [b for x in held for b in x.to_bytes(8, "little")]
+    return s
+
+
+def some_entries(n):
+    return [([rng.choice((0, 1, number() % MODULUS)) for _ in range(4)], [number() % MODULUS for _ in range(rng.randrange(3))])
+            for _ in range(n)]
+
+
+def maps():
+    def walked(s, at, room):
+        case("walk_map", at, *(number() for _ in range(room)), s=s)
+
+    for n in range(7):
+        for _ in range(6):
+            entries = some_entries(n)
+            before = some(rng.randrange(4))
+            s = before + map_bytes(entries, rng.choice((0, 0, 9))) + some(rng.randrange(3))
+            for room in {n, n + 2, max(n - 1, 0), 0}:
+                walked(s, len(before), room)
+            twice = entries + [entries[rng.randrange(n)]] + some_entries(1) if n else []
+            walked(before + map_bytes(twice), len(before), n + 2)
+            table = walk(s, len(before), 9)
+            if table[0] == 0:
+                for key in [e[0] for e in entries] + [[number() % MODULUS for _ in range(4)], [0] * 4]:
+                    looked(s, len(table[1]), key, table[1] + [0] * rng.randrange(2))
+    for n in 12, 40:
+        for order in (range(n), range(n - 1, -1, -1), rng.sample(range(n), n)):
+            s = map_bytes([([7, 7, 7, 2 * k + 1], [k] * (k % 3)) for k in order])
+            walked(s, 0, n + 1)
+            table = walk(s, 0, n)[1]
+            for k in range(0, 25, 2) if n == 12 else (1, 40, 79):
+                looked(s, n, [7, 7, 7, k], table)
+                looked(s, n - 1, [7, 7, 7, k + 1], table)
+        looked(s, n, [7, 7, 7, 2 * n - 1], [1] * 64)
+    s = map_bytes([([1, 2, 3, 4], [5, 6]), ([1, 2, 3, 3], [])])
+    for left in range(len(s)):
+        walked(s[:left], 0, 3)
+    for at in (1, len(s), len(s) + 1, *FAR):
+        walked(s, at, 2)
+    for k in range(4):
+        for x in MODULUS - 1, MODULUS, TOP:
+            key = [x if j == k else 5 for j in range(4)]
+            s = map_bytes([(key, [3])])
+            walked(s, 0, 1)
+            looked(s, 1, key, [1])  # keys are not judged by the lookup
+    for length in 2**61 - 1, 2**61, TOP, 3, 2:
+        s = [3] + [0] * 32 + form(length, 9) + [0] * 16
+        walked(s, 0, 1)
+        walked(s[:-17], 0, 1)
+        looked(s, 1, [0] * 4, [1])
+    for j in range(3):  # values that are no elements: the walk takes them, the lookup does not
+        s = map_bytes([([9, 0, 0, 0], [MODULUS if i >= j else 1 for i in range(3)])])
+        walked(s, 0, 1)
+        looked(s, 1, [9, 0, 0, 0], [1])
+    s = map_bytes(some_entries(3))
+    for n, table in (1, []), (TOP, [1]), (0, []), (0, [1, 2]), (2, [1]), (1, [len(s) - 32]), (1, [len(s) - 31]), (1, [TOP]):
+        looked(s, n, [0] * 4, table)
+        looked(s, n, word_at(s, len(s) - 32), table)
+
+
+def looked(s, n, key, table):
+    for name in "lookup", "values":
+        case(name, n, *key, *table, s=s)
+
+
 def well_covered():
     """Each line of the scan's table refuses two files or more, one by the least that can be, and is passed
     by one at the limit itself. (4 x roots is never 2 ** 64 - 1: the nearest is 3 below.)"""
@@ -912,6 +1379,15 @@ SAID = {
     "row_entry": {0, SHORT, OVERFLOW, TAG, PAYLOAD},
     "read_entries": {0, SHORT, OVERFLOW, TAG, PAYLOAD},
     "row_place": {0, OVERFLOW},
+    "digest_place": {0, OVERFLOW},
+    "digest_by_counting": {0, SHORT, OVERFLOW, TAG, PAYLOAD, INDEX, NO_HASH, ELEMENT},
+    "digest_with_table": {0, SHORT, OVERFLOW, TAG, PAYLOAD, INDEX, NO_HASH, ELEMENT, ROOM},
+    "check_children": {0, SHORT, OVERFLOW, TAG, PAYLOAD, CHILD_RANGE, FORWARD},
+    "check_order": {0, SHORT, OVERFLOW, TAG, PAYLOAD, ORDER},
+    "check_strict": {0, SHORT, OVERFLOW, TAG, PAYLOAD, NOT_CANONICAL},
+    "build_slots": {0, SHORT, OVERFLOW, TOO_MANY, BUDGET, TAG, PAYLOAD, ROOM},
+    "walk_map": {0, SHORT, OVERFLOW, ELEMENT, DUPLICATE, ROOM},
+    "lookup": {0, SHORT, OVERFLOW, ELEMENT, ROOM},
 }
 
 
@@ -921,7 +1397,8 @@ def main(oracle, model_folder):
     import model
     by_model = modelled(model)
     for make in (bench, numbers, counts, words, entries, bench_files, headers, sizes, sections,
-                 entries_of_files, many_entries, random_files, rows_by_number, readers_by_index):
+                 entries_of_files, many_entries, random_files, rows_by_number, readers_by_index, slots, digests,
+                 node_checks, maps):
         make()
     well_covered()
     answers = [POINTS[name](s, *args) for name, args, s in cases]
@@ -935,7 +1412,7 @@ def main(oracle, model_folder):
     lines, seen, sources = [], dict.fromkeys(names, 0), {}
     for (name, args, s), answer, ask in zip(cases, answers, asked):
         source = "document 01"
-        if name in by_model:
+        if name in by_model and not (name in ("walk_map", "build_slots") and answer[0] == ROOM):
             assert by_model[name](s, *args) == answer, (name, args, s)
             source = "model.py"
         replied = [next(replies) for _ in ask]

@@ -17,6 +17,7 @@ use page::words::read_facts;
 use page::words::stand_in_facts;
 ghost use mathlib.Core.Path.{_≡_};
 ghost use lib.ListN.{length};
+ghost use Rattle.io.specs.Counts.{Counts};
 
 // Room for one byte more than a file may have.
 fn room() -> [u8; 65537]
@@ -32,17 +33,47 @@ fn key_places() -> [u64; 2048]
     [0; 2048]
 }
 
-// Room for any page.
+// Room for any page: none is longer, so the last arm below is not reached (`answer-short` of the crate page).
 fn paper() -> [u8; 512]
     ensures { λ r. ⌜ 512 ≡ length r ⌝ }
 {
     [0; 512]
 }
 
+// How many bytes were read, or that a read failed.
+struct Input {
+    n: usize,
+    failed: bool,
+}
+
+// Reads standard input to its end, or until the room is full.
+fn read_input(buf: &mut [u8]) -> Input
+    ensures { λ r. ⌜ Counts (r .n) (now (buf .exit)) ⌝ }
+{
+    let mut n: usize = 0;
+    while n < buf.len() {
+        let got = libc::read(STDIN_FILENO, &mut buf[n..]);
+        if got < 0 {
+            return Input { n: 0, failed: true };
+        }
+        let more = io::count(got, &buf[n..]);
+        if more == 0 {
+            return Input { n, failed: false };
+        }
+        n += more;
+    }
+    Input { n, failed: false }
+}
+
 // Reads the file, and prints its page.
 fn run(f: FormatFacts) {
     let mut file = room();
-    let n = io::read_full(STDIN_FILENO, &mut file);
+    let input = read_input(&mut file);
+    if input.failed {
+        os::fail(b"mast_layout: standard input");
+        return;
+    }
+    let n = input.n;
     let mut keys = key_places();
     let mut out = paper();
     match layout_page(&file[..n], f, &mut keys, &mut out) {

@@ -1,13 +1,12 @@
 -- The answer's text and key table, by what the scan and the walk said.
 -- Assumes nothing.
-use mathlib.Core.Path.{_≡_, refl, sym, ap, _∙_}
+use mathlib.Core.Path.{_≡_, sym}
 use mathlib.Core.Bool.{true}
 use mathlib.Core.List.{List}
 use Prim.Native.Nat.{ℕ, _≤_, _<_}
 use borrow.Author.Tests.{lt-ltb, le-ltb}
-use lib.Dec.{ltb}
 use lib.ListN.{length}
-use Rattle.wire.specs.Table.{Outcome, refused, accepted, pick, _>>=_}
+use Rattle.wire.specs.Table.{Outcome, refused, accepted, _>>=_}
 use Rattle.wire.specs.Refusals.{ROOM}
 use Rattle.layout.specs.Scan.{scanOutcome}
 use Rattle.layout.specs.declared.facts.FormatFacts.{FormatFacts}
@@ -16,7 +15,7 @@ use Rattle.layout.specs.declared.forest.ForestLayout.{ForestLayout}
 use Rattle.advice.specs.Walk.{Walked, walkOutcome, keyTable}
 use Rattle.page.specs.Page.{pageText, refusalText}
 use Rattle.page.proofs.Pages.{page-short, refusal-short}
-use Rattle.page.specs.Answer.{most, Sheet, mapOutcome, answerOutcome, textOf, answerText, keysOf, keysAfter}
+use Rattle.page.specs.Answer.{most, Sheet, mapOutcome, answerOutcome, textOf, answerText, keysAfter}
 
 -- ---- after the scan
 

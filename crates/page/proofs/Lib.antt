@@ -4,4 +4,5 @@ pub mod Pages
 pub mod WordLaws
 pub mod AnswerLaws
 pub mod Answers
+pub mod ReadBack
 pub mod Tight

@@ -3,14 +3,13 @@
 use mathlib.Core.Path.{_≡_, refl, sym, ap, _∙_}
 use mathlib.Core.Bool.{Bool, true, false}
 use mathlib.Core.List.{List, [], _∷_, _++_, append-assoc}
-use Prim.Native.Nat.{ℕ, suc, _+_, _*_, _≤_, _<_}
+use Prim.Native.Nat.{ℕ, _+_, _*_, _≤_, _<_}
 use native.Mathlib.Nat.{add-zero}
 use native.Mathlib.Omega.{arith}
 use lib.Dec.{eqb}
 use lib.ListN.{length, getD, length-append, List·getD-append}
 use lib.Seq.{getD-append-add}
 use Rattle.wire.specs.Table.{pick}
-use Rattle.wire.specs.declared.units.ByteOffset.{ByteOffset}
 use Rattle.layout.specs.declared.forest.HashSection.{HashSection}
 use Rattle.layout.specs.declared.forest.HashSection.the-variants.{At, Absent}
 use Rattle.layout.specs.declared.forest.ForestLayout.{ForestLayout}

@@ -8,10 +8,10 @@ use native.Mathlib.Omega.{arith}
 use native.Mathlib.Nat.{add-zero, zero-add}
 use native.Mathlib.Numerals.{add-one}
 use borrow.Author.Tests.{lt-ltb, le-ltb, ltb-false, eq-eqb, ne-eqb}
-use lib.Dec.{ltb, eqb}
+use lib.Dec.{ltb}
 use lib.ListN.{length, getD, set, drop, length-append}
 use lib.Seq.{sets, sets-eq, set-comm, drop-cons}
-use Rattle.wire.specs.Table.{Outcome, refused, accepted, pick, firstMet}
+use Rattle.wire.specs.Table.{refused, accepted, pick, firstMet}
 use Rattle.wire.specs.Refusals.{ROOM}
 use Rattle.page.specs.Text.{digit, decimal, hole, piece, holesPast, filledFrom, textOutcome, withText}
 use Rattle.page.proofs.Decimals.{decimal-small, decimal-step, count-step}

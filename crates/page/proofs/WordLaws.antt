@@ -1,18 +1,16 @@
 -- The laws of words: a word of digits read on from a place, and the first wrong word.
 -- Assumes nothing.
-use mathlib.Core.Path.{_≡_, refl, sym, ap, _∙_}
-use mathlib.Core.Bool.{Bool, true, false, _||_}
+use mathlib.Core.Path.{_≡_, refl, sym, _∙_}
+use mathlib.Core.Bool.{Bool, true, false}
 use mathlib.Core.List.{List, [], _∷_}
-use Prim.Native.Nat.{ℕ, zero, suc, _+_, _*_, _^_, _≤_, _<_}
+use Prim.Native.Nat.{ℕ, _+_, _*_, _^_, _≤_, _<_}
 use native.Mathlib.Omega.{arith}
 use native.Mathlib.Numerals.{add-one}
 use borrow.Author.Tests.{le-leb, lt-leb, eq-eqb, ne-eqb}
-use lib.Dec.{leb, eqb}
 use lib.ListN.{length, getD, drop, drop-of-length-le}
 use lib.Seq.{drop-cons}
 use Rattle.layout.specs.declared.facts.FormatFacts.{FormatFacts}
 use Rattle.page.specs.Words.{hexDigit, notHex, hexWrong, decimalDigit, numberFrom, numberOfWord, noFacts, factsOf, wordsCheck, factsBeside}
-use Rattle.page.specs.declared.words.NumberWord.{NumberWord}
 use Rattle.page.specs.declared.words.NumberWord.the-variants as number
 use Rattle.page.specs.declared.words.WordsCheck.{WordsCheck}
 use Rattle.page.specs.declared.words.WordsCheck.the-variants.{Taken, Wrong}

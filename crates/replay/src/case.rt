@@ -2,9 +2,11 @@
 use crate::points::arity;
 use crate::points::is_known;
 use crate::points::is_writer;
+use crate::points::lends;
 use crate::points::run;
 use crate::row::Row;
 use crate::row::is_recorded;
+use crate::tables::agrees_with_table;
 use crate::text::numbers_of;
 ghost use Prim.Native.Nat.{_≤_};
 ghost use lib.ListN.{length};
@@ -51,9 +53,9 @@ fn part_at(t: &[u64], at: usize) -> Part
 }
 
 // How many bytes are at the start of a buffer, unless not all of them came in.
-struct Stored {
-    whole: bool,
-    count: usize,
+pub(crate) struct Stored {
+    pub(crate) whole: bool,
+    pub(crate) count: usize,
 }
 
 // Puts numbers that are all bytes at the start of `out`.
@@ -94,20 +96,39 @@ fn agrees(point: u64, answer: Row, s: &[u8], recorded: &[u64]) -> bool {
     is_recorded(n, row, &s[..0], recorded)
 }
 
-fn run_case(point: u64, args: &[u64], s: &mut [u8], recorded: &[u64]) -> Verdict {
-    let answer = run(point, args, s);
-    if agrees(point, answer, s, recorded) {
+fn verdict_of(point: u64, agreed: bool) -> Verdict {
+    if agreed {
         return Verdict::Agrees(point);
     }
     Verdict::Differs(point)
+}
+
+fn run_case(point: u64, args: &[u64], s: &mut [u8], recorded: &[u64]) -> Verdict {
+    let answer = run(point, args, s);
+    verdict_of(point, agrees(point, answer, s, recorded))
+}
+
+// What comes after the arguments is the table.
+fn run_with_table(point: u64, args: &[u64], s: &[u8], recorded: &[u64]) -> Verdict {
+    let fixed = arity(point);
+    if args.len() < fixed {
+        return Verdict::Unreadable;
+    }
+    let table = &args[fixed..];
+    verdict_of(
+        point,
+        agrees_with_table(point, &args[0..fixed], s, table, recorded),
+    )
 }
 
 fn judge_case(point: u64, args: &[u64], input: &[u64], recorded: &[u64]) -> Verdict {
     if !is_known(point) {
         return Verdict::Unknown(point);
     }
-    if args.len() != arity(point) {
-        return Verdict::Unreadable;
+    if !lends(point) {
+        if args.len() != arity(point) {
+            return Verdict::Unreadable;
+        }
     }
     let mut bytes = [0u8; 40960];
     let stored = store(input, &mut bytes);
@@ -115,6 +136,9 @@ fn judge_case(point: u64, args: &[u64], input: &[u64], recorded: &[u64]) -> Verd
         return Verdict::Unreadable;
     }
     let n = stored.count;
+    if lends(point) {
+        return run_with_table(point, args, &bytes[..n], recorded);
+    }
     run_case(point, args, &mut bytes[..n], recorded)
 }
 

@@ -18,7 +18,7 @@ use layout::scan::scan_layout;
 use wire::units::Slot;
 
 // The index asked for comes after the layout's numbers.
-const INDEX: usize = 12;
+pub(crate) const INDEX: usize = 12;
 
 fn hashes_of(args: &[u64]) -> HashSection {
     if arg(args, 9) == 0 {
@@ -27,7 +27,7 @@ fn hashes_of(args: &[u64]) -> HashSection {
     HashSection::At(offset(args, 10))
 }
 
-fn layout_of(args: &[u64]) -> ForestLayout {
+pub(crate) fn layout_of(args: &[u64]) -> ForestLayout {
     ForestLayout {
         node_count: size(args, 0),
         internal_node_count: Slot(size(args, 1)),

@@ -20,11 +20,14 @@ mod counts;
 mod entries;
 mod facts;
 mod forests;
+mod maps;
+mod nodes;
 mod numbers;
 mod points;
 mod report;
 mod row;
 mod sections;
+mod tables;
 mod text;
 mod words;
 

@@ -5,12 +5,13 @@ use crate::counts;
 use crate::entries;
 use crate::facts;
 use crate::forests;
+use crate::nodes;
 use crate::numbers;
 use crate::row::Row;
 use crate::sections;
 use crate::words;
 
-pub(crate) const LAST: u64 = 24;
+pub(crate) const LAST: u64 = 34;
 
 pub(crate) fn is_known(point: u64) -> bool {
     if point < 1 {
@@ -24,7 +25,8 @@ pub(crate) fn arity(point: u64) -> usize {
     match point {
         // a place of the input bytes, and how many from there; a place, and what to write there
         // the first row's place, and a row's number or how many rows
-        2 | 9 | 20 | 21 => 2,
+        // a section's place and a slot
+        2 | 9 | 20 | 21 | 25 => 2,
         // two words
         14 => 8,
         // a kind and two ids, 0 where the kind has none
@@ -33,10 +35,20 @@ pub(crate) fn arity(point: u64) -> usize {
         // facts
         18 => 10,
         // facts, whether hashless is allowed, and a bound; a layout record and an index
-        22 | 23 | 24 => 13,
+        22 | 23 | 24 | 26 | 31 => 13,
+        // a layout record; a layout record and a bound
+        27 | 28 | 29 => 12,
+        30 => 14,
+        // how many of the table's offsets, and a key
+        33 | 34 => 5,
         // a refusal, a number, an element or an entry's word; else a place of the input bytes
         _ => 1,
     }
+}
+
+// Whether a table is lent: tables.rt has the calls.
+pub(crate) fn lends(point: u64) -> bool {
+    30 <= point
 }
 
 // Whether an entry point writes to the bytes.
@@ -71,6 +83,11 @@ pub(crate) fn run(point: u64, args: &[u64], s: &mut [u8]) -> Row {
         22 => forests::scan_layout_row(args, s),
         23 => forests::root_at_row(args, s),
         24 => forests::entry_at_row(args, s),
+        25 => nodes::digest_place_row(args),
+        26 => nodes::digest_by_counting_row(args, s),
+        27 => nodes::check_children_row(args, s),
+        28 => nodes::check_order_row(args, s),
+        29 => nodes::check_strict_row(args, s),
         _ => Row::none(),
     }
 }

@@ -11,7 +11,7 @@ fn print_number(n: u64) {
     io::print_decimal(STDOUT_FILENO, n);
 }
 
-// The names in three parts: matches of few arms are proved sooner than one of many.
+// The names in four parts: matches of few arms are proved sooner than one of many.
 fn print_number_name(point: u64) {
     match point {
         1 => print(b"refusal_number"),
@@ -47,7 +47,22 @@ fn print_forest_name(point: u64) {
         21 => print(b"read_entries"),
         22 => print(b"scan_layout"),
         23 => print(b"read_procedure_root_at"),
-        _ => print(b"read_node_entry_at"),
+        24 => print(b"read_node_entry_at"),
+        _ => print(b"digest_place"),
+    }
+}
+
+fn print_node_name(point: u64) {
+    match point {
+        26 => print(b"digest_by_counting"),
+        27 => print(b"check_children"),
+        28 => print(b"check_order"),
+        29 => print(b"check_strict"),
+        30 => print(b"build_slots"),
+        31 => print(b"digest_with_table"),
+        32 => print(b"walk_map"),
+        33 => print(b"lookup"),
+        _ => print(b"values"),
     }
 }
 
@@ -56,7 +71,8 @@ fn print_name(point: u64) {
         0 => print(b"total"),
         1..=9 => print_number_name(point),
         10..=17 => print_word_name(point),
-        _ => print_forest_name(point),
+        18..=25 => print_forest_name(point),
+        _ => print_node_name(point),
     }
 }
 

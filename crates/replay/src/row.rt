@@ -86,6 +86,25 @@ pub(crate) fn is_recorded(n: usize, row: [u64; 16], lent: &[u8], recorded: &[u64
     false
 }
 
+// As before, with a table of numbers for the bytes.
+pub(crate) fn is_recorded_with(n: usize, row: [u64; 16], lent: &[u64], recorded: &[u64]) -> bool
+    ensures { λ r. ⌜ (r ≡ true → now (recorded .entry) ≡ take n row ++ now (lent .entry)) ⌝ }
+{
+    if n < 1 {
+        return false;
+    }
+    if 16 < n {
+        return false;
+    }
+    if recorded.len() < n {
+        return false;
+    }
+    if same_numbers(&row[..n], &recorded[..n]) {
+        return same_numbers(lent, &recorded[n..]);
+    }
+    false
+}
+
 fn same_numbers(a: &[u64], b: &[u64]) -> bool
     ensures { λ r. ⌜ (r ≡ true → now (a .entry) ≡ now (b .entry)) ⌝ }
 {

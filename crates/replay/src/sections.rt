@@ -13,12 +13,16 @@ use layout::rows::row_place;
 use wire::refusal::Refusal;
 use wire::refusal::refusal_number;
 
-// The refusal that a row's end above 2^64 - 1 is, alone.
-pub(crate) fn row_place_row(args: &[u64]) -> Row {
-    match row_place(place(args), size(args, 1), size(args, 2)) {
+// Where it starts, or the refusal that a row's end above 2^64 - 1 is, alone.
+pub(crate) fn row_of_place(answer: RowPlace) -> Row {
+    match answer {
         RowPlace::At(at) => Row::of(0).then_place(at),
         RowPlace::Over => Row::of(refusal_number(Refusal::Overflow) as u64),
     }
+}
+
+pub(crate) fn row_place_row(args: &[u64]) -> Row {
+    row_of_place(row_place(place(args), size(args, 1), size(args, 2)))
 }
 
 pub(crate) fn row_of_read(answer: RowEntry) -> Row {

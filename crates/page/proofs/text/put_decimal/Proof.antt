@@ -7,7 +7,7 @@ use borrow.Author.Needs.{needs}
 use lib.ListN.{length, length-set}
 use lib.Seq.{sets}
 use Rattle.page.specs.Text.{decimal}
-use Rattle.page.proofs.Decimals.{decimal-short, count-small, count-step}
+use Rattle.page.proofs.Decimals.{count-small, count-step}
 use Rattle.page.proofs.Texts.{store-digit, store-small}
 use Rattle.page.proofs.text.put_decimal.Statement.{statement}
 use Rattle.page.proofs.text.put_decimal.Tie as tie
