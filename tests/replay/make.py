@@ -33,10 +33,17 @@ and values how many of the table's offsets, and a key: 0, the values' place, the
 compared, or 0 and the keys compared, where it is absent; and the values' bytes with their number before.
 A lent table follows the arguments of build_slots, digest_with_table, walk_map, lookup and values.
 
+Maps that no line holds are made by a formula, here and in the program alike: large_walk takes how many
+entries, their order, how many of the table's places are lent, whether the last entry repeats a key, and
+how many bytes the file is cut by; large_lookup and large_values these, how many of the table's offsets,
+and the number of a key. A sum that depends on each number and its place stands for the whole table after
+the walk, and for the values' bytes.
+
 Each answer has up to three sources, which have to agree: the published Rust, model.py, and the plain
 statement of document 01 in this file. What is counted as a line's source is the first of the three
 that has an answer.
 """
+import functools
 import random
 import subprocess
 import sys
@@ -444,6 +451,71 @@ def values(s, *args):
     return [8 * n, *s[at:at + 8 * n]]
 
 
+# ---- maps that no line holds: crates/replay/src/formula.rt and large.rt
+
+RISING, FALLING, SHUFFLED = range(3)
+PLACES = 2048  # of the table, all of which are marked before a walk
+
+
+def large_key(k):
+    """The key of a number: entries have the odd ones, in the order of their ranks."""
+    return k // 64 * 1000000007, k // 16 % 4 * 2**62, k // 4 % 4 * 255, k % 4 * 0x123456789ABC
+
+
+def large_ranks(n, order):
+    if order == SHUFFLED:
+        return [(1237 * i + 611) % n for i in range(n)]
+    return list(range(n))[::1 if order == RISING else -1]
+
+
+def large_value(i, j):
+    x = 4 * i + j
+    return TOP if x % 103 == 102 else 1000003 * x + 1  # a few are no elements
+
+
+def large_entries(n, order, again):
+    numbers = [2 * rank + 1 for rank in large_ranks(n, order)] + [n // 2 * 2 + 1] * again
+    return [(large_key(k), [large_value(i, j) for j in range((i % 11 + i // 11) % 4)]) for i, k in enumerate(numbers)]
+
+
+@functools.cache
+def large_map(n, order, again, cut):
+    s = map_bytes(large_entries(n, order, again))
+    return s[:len(s) - cut]
+
+
+def large_sum(numbers):
+    result = 1
+    for x in numbers:
+        result = (8191 * result + x) % (2**50 - 27)
+    return result
+
+
+MARKS = [1000000 + i for i in range(PLACES)]
+
+
+def large_walked(walk_map, n, order, places, again, cut):
+    """What a walk answers, and the whole table after it."""
+    answer = walk_map(large_map(n, order, again, cut), 0, *MARKS[:places])
+    end = len(answer) - places
+    return answer[:end], answer[end:] + MARKS[places:]
+
+
+def large_walk(s, *args, by=walk_map):
+    answer, table = large_walked(by, *args)
+    return [*answer, large_sum(table)]
+
+
+def large_lookup(s, *args, by=lookup):
+    *made, asked, k = args
+    return by(large_map(made[0], made[1], *made[3:]), asked, *large_key(k), *large_walked(walk_map, *made)[1])
+
+
+def large_values(s, *args):
+    n, *part = large_lookup(s, *args, by=values)
+    return [n, large_sum(part)]
+
+
 POINTS = {
     "refusal_number": lambda s, i: [i],
     "is_short": lambda s, at, n: [int(is_short(s, at, n))],
@@ -479,6 +551,9 @@ POINTS = {
     "walk_map": walk_map,
     "lookup": lookup,
     "values": values,
+    "large_walk": large_walk,
+    "large_lookup": large_lookup,
+    "large_values": large_values,
 }
 
 # ---- the model, where it has the entry point
@@ -589,6 +664,7 @@ def modelled(model):
         "check_order": checks(model.order),
         "check_strict": checks(strict),
         "walk_map": walked_or_zeros,  # the model has all the room that it needs
+        "large_walk": lambda s, *args: large_walk(s, *args, by=walked_or_zeros),
         "bad_format": lambda s, *facts: [int(refusing(scan)(s, *facts, 1, 0, 0)[0] == FORMAT)],
         "row_place": place,
         "row_entry": refusing(row),
@@ -675,6 +751,8 @@ def commands(name, s, args, answer):
         return [by_layout("digest", args, str(args[12]), s)]  # the Rust reads all entries, and rebuilds hashes
     if name == "walk_map" and answer[0] != ROOM:
         return [f"map {args[0]} {hexed(s)}"]
+    if name == "large_walk" and answer[0] != ROOM:
+        return [f"map 0 {hexed(large_map(*args[:2], *args[3:]))}"]
     if name == "read_entries":
         rows = answer[1] + 1 if answer[0] else args[1]
         return [row_command("node", args[0], i, s) for i in range(rows)]
@@ -695,6 +773,8 @@ def said_of_rows(s, args, answers):
 
 def said(name, args, answer):
     """An answer of the Rust, which reads at 0, in the numbers of a line; a count's length is not said."""
+    if name == "large_walk":
+        return large_walk([], *args, by=lambda s, *lent: said("walk_map", list(lent), answer))
     words = answer.split(" | ")[0].split()
     at = args[0] if name in ("read_entry", "read_count") else 0
     if name == "row_place" and words[:2] != ["err", "6"]:
@@ -1287,13 +1367,16 @@ def node_checks():
             case(name, *lay, s=s[:18])
 
 
+def word_bytes(numbers):
+    return [b for x in numbers for b in x.to_bytes(8, "little")]
+
+
 def map_bytes(entries, size=0):
     """A map of keys and values; `size` is the count's form."""
     n = len(entries)
     s = form(n, size or shortest_len(n))
     for key, held in entries:
-        s += [b for x in key for b in x.to_bytes(8, "little")] + form(len(held), shortest_len(len(held)))
-        s += [b for x in held for b in x.to_bytes(8, "little")]
+        s += word_bytes(key) + form(len(held), shortest_len(len(held))) + word_bytes(held)
     return s
 
 
@@ -1359,6 +1442,92 @@ def looked(s, n, key, table):
         case(name, n, *key, *table, s=s)
 
 
+LARGE = 0, 1, 2, 3, 100, 2000
+ORDERS = RISING, FALLING, SHUFFLED
+
+
+def asked_of(n, order):
+    """Numbers of keys: present ones have odd numbers, and absent are the even ones and those above 2 n. Two
+    have a value that is no element, of which the walk says nothing."""
+    if n < 4:
+        return range(8)
+    ranked = zip(large_ranks(n, order), large_entries(n, order, 0))
+    bad = [rank for rank, (_, held) in ranked if TOP in held]
+    present = {0, 1, n // 3, n // 2, 2 * n // 3 + 1, n - 2, n - 1, bad[0], bad[-1]}
+    return sorted({2 * rank + 1 for rank in present} | {0, 2, n // 2 * 2, n // 5 * 2, 2 * n - 2, 2 * n})
+
+
+def large_maps():
+    def walked(*args):
+        case("large_walk", *args)
+
+    def looked_up(*args):
+        case("large_lookup", *args)
+        case("large_values", *args)
+
+    for n in LARGE:
+        for order in ORDERS:
+            for places in {n, n + 1, PLACES}:
+                walked(n, order, places, 0, 0)
+            walked(n, order, n, 0, 1)
+            for k in asked_of(n, order):  # absent keys over all places, present ones over as many as there are entries
+                looked_up(n, order, n if k % 2 else PLACES, 0, 0, n, k)
+            if n:
+                walked(n, order, n - 1, 0, 0)
+                walked(n, order, n + 1, 1, 0)
+                walked(n, order, PLACES, 1, 0)
+                walked(n, order, n, 1, 0)  # ROOM of the entry that repeats a key
+                walked(n, order, n + 1, 1, 1)  # and SHORT
+        looked_up(n, SHUFFLED, n, 0, 0, PLACES + 1, 1)  # ROOM
+        looked_up(n, SHUFFLED, n, 0, 0, PLACES, 2 * n)  # more than were walked: a mark is no offset of the file
+        if n:
+            looked_up(n, SHUFFLED, n - 1, 0, 0, n, 1)  # over the zeros that a refused walk leaves
+
+
+def large_well_covered(answers):
+    """Each size in each order: what is asked, and that the map is what it is meant to be."""
+    keys = [large_key(k) for k in range(4001)]
+    assert keys == sorted(set(keys)) and max(max(key) for key in keys) < MODULUS
+    parts = [next(e for e in range(4) if a[e] != b[e]) for a, b in zip(keys[1::2], keys[3::2])]
+    assert set(parts) == {0, 1, 2, 3} and parts.count(3) > 900
+    said = {(name, *args): answer for (name, args, _), answer in zip(cases, answers) if name.startswith("large")}
+    for n in LARGE:
+        for order in ORDERS:
+            assert sorted(large_ranks(n, order)) == list(range(n))
+            entries = large_entries(n, order, 0)
+            places, at = {}, shortest_len(n)
+            for key, held in entries:
+                places[key] = at
+                at += 33 + 8 * len(held)
+            assert at == len(large_map(n, order, 0, 0))
+            rows = [places[key] for key in sorted(places)]
+            assert said["large_walk", n, order, n, 0, 0] == [0, n, at, large_sum(rows + MARKS[n:])]
+            assert said["large_walk", n, order, n, 0, 1][0] == SHORT
+            if n:
+                zeros = large_sum([0] * (n - 1) + MARKS[n - 1:]), large_sum([0] * (n + 1) + MARKS[n + 1:])
+                assert said["large_walk", n, order, n - 1, 0, 0] == [ROOM, places[entries[-1][0]], zeros[0]]
+                assert said["large_walk", n, order, n + 1, 1, 0] == [DUPLICATE, at, zeros[1]]
+            for name in "large_lookup", "large_values":
+                asked = {args[-1]: a for (point, *args), a in said.items() if point == name and args[:2] == [n, order]
+                         and args[-2] == n and args[2] >= n}
+                assert len(asked) >= 8 and {0, 2 * n} <= set(asked)  # below and above all
+                for k in {1, 2 * n - 1, n // 2 * 2 + 1} if n else ():  # the first, the last, the middle: found
+                    assert len(asked[k]) == (4 if name == "large_lookup" else 2)
+                assert n < 2 or n // 2 * 2 in asked  # between two
+                for k, answer in asked.items():
+                    key = large_key(k)
+                    held = dict(entries).get(key)
+                    if name == "large_values":
+                        part = [] if held is None or TOP in held else word_bytes(held)
+                        assert answer == [len(part), large_sum(part)]
+                    elif held is None:
+                        assert answer[0] == 0 and len(answer) == 2 and answer[1] <= n.bit_length()
+                    elif TOP in held:
+                        assert answer == [ELEMENT, places[key] + 33 + 8 * held.index(TOP)]
+                    else:
+                        assert answer[:3] == [0, places[key] + 33, len(held)] and answer[3] <= n.bit_length()
+
+
 def well_covered():
     """Each line of the scan's table refuses two files or more, one by the least that can be, and is passed
     by one at the limit itself. (4 x roots is never 2 ** 64 - 1: the nearest is 3 below.)"""
@@ -1388,6 +1557,8 @@ SAID = {
     "build_slots": {0, SHORT, OVERFLOW, TOO_MANY, BUDGET, TAG, PAYLOAD, ROOM},
     "walk_map": {0, SHORT, OVERFLOW, ELEMENT, DUPLICATE, ROOM},
     "lookup": {0, SHORT, OVERFLOW, ELEMENT, ROOM},
+    "large_walk": {0, SHORT, DUPLICATE, ROOM},
+    "large_lookup": {0, SHORT, ELEMENT, ROOM},
 }
 
 
@@ -1398,10 +1569,11 @@ def main(oracle, model_folder):
     by_model = modelled(model)
     for make in (bench, numbers, counts, words, entries, bench_files, headers, sizes, sections,
                  entries_of_files, many_entries, random_files, rows_by_number, readers_by_index, slots, digests,
-                 node_checks, maps):
+                 node_checks, maps, large_maps):
         make()
     well_covered()
     answers = [POINTS[name](s, *args) for name, args, s in cases]
+    large_well_covered(answers)
     for point, numbers_said in SAID.items():
         assert {a[0] for (name, *_), a in zip(cases, answers) if name == point} == numbers_said, point
     asked = [commands(name, s, args, answer) for (name, args, s), answer in zip(cases, answers)]
@@ -1412,7 +1584,7 @@ def main(oracle, model_folder):
     lines, seen, sources = [], dict.fromkeys(names, 0), {}
     for (name, args, s), answer, ask in zip(cases, answers, asked):
         source = "document 01"
-        if name in by_model and not (name in ("walk_map", "build_slots") and answer[0] == ROOM):
+        if name in by_model and not (name in ("walk_map", "build_slots", "large_walk") and answer[0] == ROOM):
             assert by_model[name](s, *args) == answer, (name, args, s)
             source = "model.py"
         replied = [next(replies) for _ in ask]

@@ -111,6 +111,13 @@ decoded-encodes at w e said =
 
 -- ---- canonical words
 
+-- up to tag 5 the word, and from 6 on the tag alone
+pub canonical-below : (w : ℕ) → tagOf w < 6 → canonical w ≡ w
+canonical-below w h = rw (lt-ltb (tagOf w) 6 h) (div-add-mod' w (2 ^ 60))
+
+pub canonical-above : (w : ℕ) → 6 ≤ tagOf w → canonical w ≡ tagOf w * 2 ^ 60
+canonical-above w h = rw (le-ltb (tagOf w) 6 h) (omega arith)
+
 same-word : (w : ℕ) → (tagOf w < 6) ⊎ (payloadOf w ≡ 0) → canonical w ≡ w
 same-word w h = go (ltb (tagOf w) 6) refl
   where

@@ -7,7 +7,7 @@ use wire::units::ByteOffset;
 use wire::units::Cursor;
 ghost use mathlib.Core.Path.{_≡_};
 ghost use Prim.Native.Nat.{_<_};
-ghost use Rattle.info.specs.Entry.{decodeOutcome, encodeOutcome, pairOutcome, entryOutcome};
+ghost use Rattle.info.specs.Entry.{decodeOutcome, encodeOutcome, pairOutcome, canonical, entryOutcome};
 ghost use Rattle.info.specs.Shown.{shownDecoded, shownEncoded, shownEntry};
 
 // The tag is above the payload, and a pair is two ids below ID_LIMIT.
@@ -155,6 +155,17 @@ pub fn encode_entry(entry: MastNodeEntry) -> Encoded
         MastNodeEntry::Dyncall => Encoded::Word(7 * TAG_UNIT),
         MastNodeEntry::External => Encoded::Word(8 * TAG_UNIT),
     }
+}
+
+// The written form of the entry that a word reads as.
+pub fn canonical_word(word: u64) -> u64
+    ensures { λ r. ⌜ r ≡ canonical word ⌝ }
+{
+    let tag = word / TAG_UNIT;
+    if tag < 6 {
+        return word;
+    }
+    tag * TAG_UNIT
 }
 
 // The entry at a place, with the next place.

@@ -74,7 +74,7 @@ pub fn row_entry(s: &[u8], first: ByteOffset, i: usize) -> RowEntry
 }
 
 // 1 for an External, else 0.
-fn external_one(entry: MastNodeEntry) -> usize
+pub fn external_one(entry: MastNodeEntry) -> usize
     ensures { λ r. ⌜ r ≡ externalOne entry ⌝ }
 {
     match entry {

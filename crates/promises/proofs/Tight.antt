@@ -28,11 +28,13 @@ use Rattle.info.proofs.Answers.{decodedBack, decoded-again, encodedBack, encode
 use Rattle.info.proofs.decode_entry.Reads as decode-entry
 use Rattle.info.proofs.encode_entry.Reads as encode-entry
 use Rattle.info.proofs.read_entry.Reads as read-entry
+use Rattle.info.proofs.canonical_word.Reads as canonical-word
 use Rattle.layout.specs.Shown.{shownRow, shownPass, shownRoot, shownScan}
 use Rattle.layout.proofs.Answers.{rowBack, row-again, passBack, pass-again, rootBack, root-again, scanBack, scan-again}
 use Rattle.layout.proofs.facts.bad_format.Reads as bad-format
 use Rattle.layout.proofs.rows.row_place.Reads as row-place
 use Rattle.layout.proofs.rows.row_entry.Reads as row-entry
+use Rattle.layout.proofs.rows.external_one.Reads as external-one
 use Rattle.layout.proofs.rows.read_each.Reads as read-each
 use Rattle.layout.proofs.rows.read_entries.Reads as read-entries
 use Rattle.layout.proofs.scan.scan_layout.Reads as scan-layout
@@ -52,6 +54,9 @@ use Rattle.advice.proofs.Answers.{walkBack, walk-again, lookupBack, lookup-agai
 use Rattle.advice.proofs.walk.walk_map.Reads as walk-map
 use Rattle.advice.proofs.lookup.lookup.Reads as lookup
 use Rattle.advice.proofs.lookup.values.Reads as values
+use Rattle.writer.specs.Shown.{shownWrite}
+use Rattle.writer.proofs.Answers.{writeBack, write-again}
+use Rattle.writer.proofs.file.write_forest.Reads as write-forest
 
 -- the results that a promise allows are one
 abbrev pub One : {K : Type 0} {A R E : K → Type 0} → ((κs : K) → A κs → R κs → E κs → Type 0) → Type 0
@@ -122,6 +127,9 @@ encode-entry-one κs a r r′ e e′ p p′ = same-answer shownEncoded encodedBa
 pub read-entry-one : One read-entry.Post
 read-entry-one κs a r r′ e e′ p p′ = same-answer shownEntry entryBack entry-again _ r r′ p p′
 
+pub canonical-word-one : One canonical-word.Post
+canonical-word-one κs a r r′ e e′ p p′ = p ∙ sym p′
+
 -- ---- layout
 
 pub bad-format-one : One bad-format.Post
@@ -129,6 +137,9 @@ bad-format-one κs a r r′ e e′ p p′ = p ∙ sym p′
 
 pub row-place-one : One row-place.Post
 row-place-one κs a r r′ e e′ p p′ = p ∙ sym p′
+
+pub external-one-one : One external-one.Post
+external-one-one κs a r r′ e e′ p p′ = p ∙ sym p′
 
 pub row-entry-one : One row-entry.Post
 row-entry-one κs a r r′ e e′ p p′ = same-answer shownRow rowBack row-again _ r r′ p p′
@@ -188,3 +199,11 @@ lookup-one κs a r r′ e e′ p p′ = same-answer shownLookup lookupBack looku
 -- the part's contents; where in memory an empty part starts is not promised
 pub values-one : (κs : _) (a : _) (r r′ : _) (e e′ : _) → values.Post κs a r e → values.Post κs a r′ e′ → now r ≡ now r′
 values-one κs a r r′ e e′ p p′ = p ∙ sym p′
+
+-- ---- writer
+
+pub write-forest-one : One write-forest.Post
+write-forest-one κs a r r′ e e′ p p′ = same-answer shownWrite writeBack write-again _ r r′ (p .0) (p′ .0)
+
+pub write-forest-leaves : (κs : _) (a : _) (r r′ : _) (e e′ : _) → write-forest.Post κs a r e → write-forest.Post κs a r′ e′ → now (e .1 .1 .1 .1 .1 .1 .1 .1 .1 .1 .0) ≡ now (e′ .1 .1 .1 .1 .1 .1 .1 .1 .1 .1 .0)
+write-forest-leaves κs a r r′ e e′ p p′ = p .1 ∙ sym (p′ .1)

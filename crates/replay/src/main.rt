@@ -7,7 +7,8 @@
 //     entry point, count and arguments, count and input bytes, count and answer
 //
 // points.rt has the entry points with their arguments, row.rt what an answer is. After an answer's
-// own numbers come the bytes that were lent, whole, where an entry point writes.
+// own numbers come the bytes that were lent, whole, where an entry point writes. A map that no line
+// holds is made here by a formula: large.rt.
 //
 // Limits: 2,097,152 bytes of text, 65,536 numbers in a line, 40,960 bytes of a case. What is longer is
 // printed as such, and so is every line that cannot be read: none is passed over.
@@ -20,6 +21,9 @@ mod counts;
 mod entries;
 mod facts;
 mod forests;
+mod formula;
+mod large;
+mod made;
 mod maps;
 mod nodes;
 mod numbers;

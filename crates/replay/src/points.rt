@@ -5,13 +5,14 @@ use crate::counts;
 use crate::entries;
 use crate::facts;
 use crate::forests;
+use crate::large;
 use crate::nodes;
 use crate::numbers;
 use crate::row::Row;
 use crate::sections;
 use crate::words;
 
-pub(crate) const LAST: u64 = 34;
+pub(crate) const LAST: u64 = 37;
 
 pub(crate) fn is_known(point: u64) -> bool {
     if point < 1 {
@@ -41,6 +42,9 @@ pub(crate) fn arity(point: u64) -> usize {
         30 => 14,
         // how many of the table's offsets, and a key
         33 | 34 => 5,
+        // a made map; a made map, and a lookup in it
+        35 => 5,
+        36 | 37 => 7,
         // a refusal, a number, an element or an entry's word; else a place of the input bytes
         _ => 1,
     }
@@ -48,7 +52,10 @@ pub(crate) fn arity(point: u64) -> usize {
 
 // Whether a table is lent: tables.rt has the calls.
 pub(crate) fn lends(point: u64) -> bool {
-    30 <= point
+    if point < 30 {
+        return false;
+    }
+    point < 35
 }
 
 // Whether an entry point writes to the bytes.
@@ -88,6 +95,7 @@ pub(crate) fn run(point: u64, args: &[u64], s: &mut [u8]) -> Row {
         27 => nodes::check_children_row(args, s),
         28 => nodes::check_order_row(args, s),
         29 => nodes::check_strict_row(args, s),
+        35..=37 => large::large_row(point, args),
         _ => Row::none(),
     }
 }

@@ -11,7 +11,7 @@ fn print_number(n: u64) {
     io::print_decimal(STDOUT_FILENO, n);
 }
 
-// The names in four parts: matches of few arms are proved sooner than one of many.
+// The names in five parts: matches of few arms are proved sooner than one of many.
 fn print_number_name(point: u64) {
     match point {
         1 => print(b"refusal_number"),
@@ -66,13 +66,22 @@ fn print_node_name(point: u64) {
     }
 }
 
+fn print_large_name(point: u64) {
+    match point {
+        35 => print(b"large_walk"),
+        36 => print(b"large_lookup"),
+        _ => print(b"large_values"),
+    }
+}
+
 fn print_name(point: u64) {
     match point {
         0 => print(b"total"),
         1..=9 => print_number_name(point),
         10..=17 => print_word_name(point),
         18..=25 => print_forest_name(point),
-        _ => print_node_name(point),
+        26..=34 => print_node_name(point),
+        _ => print_large_name(point),
     }
 }
 

@@ -2,15 +2,12 @@
 -- Assumes nothing.
 use mathlib.Core.Path.{_≡_, refl, ap, _∙_}
 use mathlib.Core.List.{List, [], _∷_}
-use Prim.Native.Nat.{ℕ, _*_, _^_, _<_, _≤_}
-use native.Mathlib.Nat.{div-add-mod'}
-use native.Mathlib.Omega.{arith}
-use borrow.Author.Tests.{lt-ltb, le-ltb}
+use Prim.Native.Nat.{ℕ}
 use Rattle.wire.specs.Table.{rule, accepted, checked, _>>=_}
 use Rattle.wire.specs.Refusals.{PAYLOAD}
 use Rattle.wire.proofs.Tables.{accepted-none, none-accepted}
 use Rattle.wire.proofs.Stages.{in-turn}
-use Rattle.info.specs.Entry.{tagOf, entryOf, decodeRules, decodeOutcome, wordOf, wideIds, encodeOutcome, canonical}
+use Rattle.info.specs.Entry.{entryOf, decodeRules, decodeOutcome, wordOf, wideIds, encodeOutcome, canonical}
 use Rattle.info.specs.declared.MastNodeEntry.{MastNodeEntry}
 use Rattle.info.proofs.Laws.{decoded-encodes}
 use Rattle.layout.specs.Rows.{rowWord, rowRules, rowOutcome}
@@ -31,10 +28,3 @@ written-form s first i e q =
     let k = accepted-none (rowRules s first i) (entryOf w) e q in
     let read : decodeOutcome i w ≡ accepted e = none-accepted (decodeRules i w) (entryOf w) (k .0 .1 .1) ∙ ap accepted (k .1) in
     accepted-none (rule PAYLOAD 0 (wideIds e) ∷ []) (wordOf e) (canonical w) (decoded-encodes i w e read) .1
-
--- up to tag 5 that is the word, and from 6 on the tag alone
-pub canonical-below : (w : ℕ) → tagOf w < 6 → canonical w ≡ w
-canonical-below w h = rw (lt-ltb (tagOf w) 6 h) (div-add-mod' w (2 ^ 60))
-
-pub canonical-above : (w : ℕ) → 6 ≤ tagOf w → canonical w ≡ tagOf w * 2 ^ 60
-canonical-above w h = rw (le-ltb (tagOf w) 6 h) (omega arith)

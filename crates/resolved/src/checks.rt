@@ -1,6 +1,7 @@
 // The checks of all nodes: children, order, strict entries. Each reads the nodes from 0 on, one at a
 // time, and judges a node before it reads the next.
 use info::MastNodeEntry;
+use info::canonical_word;
 use layout::forest::ForestLayout;
 use layout::rows::RowEntry;
 use layout::rows::row_entry;
@@ -10,13 +11,10 @@ use wire::units::ByteOffset;
 ghost use mathlib.Core.Path.{_≡_};
 ghost use mathlib.Core.List.{[], _∷_};
 ghost use Rattle.wire.specs.Table.{checked};
-ghost use Rattle.info.specs.Entry.{canonical};
 ghost use Rattle.layout.specs.Rows.{rowOutcome};
 ghost use Rattle.resolved.specs.Nodes.{nodeStep};
 ghost use Rattle.resolved.specs.Checks.{children, childRules, judgeChildren, childrenOutcome, classOf, judgeOrder, orderOutcome, judgeStrict, strictOutcome};
 ghost use Rattle.resolved.specs.Shown.{shownCheck, shownOrder};
-
-const TAG_UNIT: u64 = 0x1000_0000_0000_0000;
 
 // Every node is in order, or the first refusal, with the node's number.
 pub enum NodeCheck {
@@ -162,17 +160,6 @@ pub fn check_order(s: &[u8], layout: ForestLayout) -> NodeCheck
         }
     }
     NodeCheck::Holds
-}
-
-// The written form of the entry that a word reads as.
-fn canonical_word(word: u64) -> u64
-    ensures { λ r. ⌜ r ≡ canonical word ⌝ }
-{
-    let tag = word / TAG_UNIT;
-    if tag < 6 {
-        return word;
-    }
-    tag * TAG_UNIT
 }
 
 // Node i is read, and its written form is compared with its bytes.

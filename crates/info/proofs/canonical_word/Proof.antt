@@ -1,10 +1,10 @@
--- `resolved::checks::canonical_word` meets its contract: the word itself, or its tag alone.
+-- `info::canonical_word` meets its contract: the word itself, or its tag alone.
 -- Assumes nothing.
 use mathlib.Core.Path.{sym}
 use borrow.Author.Needs.{needs}
-use Rattle.resolved.proofs.CheckLaws.{canonical-below, canonical-above}
-use Rattle.resolved.proofs.checks.canonical_word.Statement.{statement}
-use Rattle.resolved.proofs.checks.canonical_word.Tie as tie
+use Rattle.info.proofs.Laws.{canonical-below, canonical-above}
+use Rattle.info.proofs.canonical_word.Statement.{statement}
+use Rattle.info.proofs.canonical_word.Tie as tie
 
 pub canonical-word-spec : {M : Type 1} → statement M
 canonical-word-spec =

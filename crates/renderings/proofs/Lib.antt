@@ -1,0 +1,10 @@
+pub mod Entries
+pub mod File
+pub mod Shown
+pub mod Map
+pub mod Written
+pub mod Valid
+pub mod Answers
+pub mod Rendered
+pub mod Demand
+pub mod Examples

@@ -1,0 +1,1 @@
+// A crate of theorems: see proofs/. It has no code.

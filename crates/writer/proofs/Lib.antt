@@ -1,0 +1,12 @@
+pub mod Lent
+pub mod Digits
+pub mod Rows
+pub mod Counted
+pub mod Words
+pub mod Sums
+pub mod Keys
+pub mod Fits
+pub mod Entries
+pub mod Sizes
+pub mod Split
+pub mod Answers

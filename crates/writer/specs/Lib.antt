@@ -1,0 +1,4 @@
+pub mod Parts
+pub mod Writer
+pub mod Shown
+pub mod Inner
