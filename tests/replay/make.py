@@ -39,6 +39,14 @@ how many bytes the file is cut by; large_lookup and large_values these, how many
 and the number of a key. A sum that depends on each number and its place stands for the whole table after
 the walk, and for the values' bytes.
 
+The parts of a file are a list: the flags, and then, each with its count before it, roots, block bytes,
+entry words, bytes of external digests and of hashes, keys, value lengths and values. rewrite takes facts
+and a file, lends the file's parts to the writer with an output as long as the file to its map's end, and
+answers that end, 0 and the length written; whether the file starts so, whether both have the same parts,
+whether the written one is no longer; and two sums, of the written bytes and of the list that was lent.
+write_parts takes facts, the room of the output, and a list of parts, and answers 0 and the length, or the
+refusal and its place; and the sum of all 1,024 bytes of which the output is the first ones.
+
 Each answer has up to three sources, which have to agree: the published Rust, model.py, and the plain
 statement of document 01 in this file. What is counted as a line's source is the first of the three
 that has an answer.
@@ -54,7 +62,7 @@ MODULUS = 2**64 - 2**32 + 1
 FAR = (2**63, TOP - 7, TOP)  # places that no file reaches
 (SHORT, MAGIC, VERSION, FLAGS, HASHLESS, OVERFLOW, TOO_MANY, BUDGET, TAG, PAYLOAD, EXTERNALS, INDEX,
  ROOT_ID) = range(1, 14)
-NO_HASH, CHILD_RANGE, FORWARD, ORDER, ELEMENT, DUPLICATE, ROOM, FORMAT, NOT_CANONICAL = range(14, 23)
+NO_HASH, CHILD_RANGE, FORWARD, ORDER, ELEMENT, DUPLICATE, ROOM, FORMAT, NOT_CANONICAL, PARTS = range(14, 24)
 KINDS = "Join Split Loop Block Call SysCall Dyn Dyncall External".split()
 REFUSALS = ("SHORT MAGIC VERSION FLAGS HASHLESS OVERFLOW TOO-MANY BUDGET TAG PAYLOAD EXTERNALS INDEX "
             "ROOT-ID NO-HASH CHILD-RANGE FORWARD ORDER ELEMENT DUPLICATE ROOM FORMAT NOT-CANONICAL "
@@ -516,6 +524,153 @@ def large_values(s, *args):
     return [n, large_sum(part)]
 
 
+# ---- the writer: parts are flags, roots, block bytes, entry words, bytes of external digests and of hashes,
+# keys (four numbers each), value lengths, values
+
+
+def canonical(word):
+    """The written form of the entry that a word reads as."""
+    return encode_entry([], *decode(word, 0)[1:])[1]
+
+
+def as_read(parts):
+    flags, roots, block, words, *rest = parts
+    return [flags, roots, block, [canonical(word) for word in words], *rest]
+
+
+def little(numbers, width):
+    return [b for x in numbers for b in x.to_bytes(width, "little")]
+
+
+def external_count(words):
+    return sum(word >> 60 == 8 for word in words)
+
+
+def file_of(facts, parts, sizes=()):
+    """The file of these parts, its entries as they stand. Each count has its shortest form, or `sizes` bytes,
+    in the order of the file: internal, external, roots, block length, map count, value lengths."""
+    flags, roots, block, words, external, hashes, keys, lengths, held = parts
+    sizes = [*sizes, *[0] * (5 + len(lengths))]
+    externals = external_count(words)
+    values = [len(words) - externals, externals, len(roots), len(block), len(lengths), *lengths]
+    counts = [form(v, size or shortest_len(v)) for v, size in zip(values, sizes)]
+    s = [*facts[:4], flags, *facts[4:7], *counts[0], *counts[1], *counts[2], *little(roots, 4)]
+    s += counts[3] + block + little(words, 8) + external + hashes + counts[4]
+    used = 0
+    for i, length in enumerate(lengths):
+        s += little(keys[4 * i:4 * i + 4], 8) + counts[5 + i] + little(held[used:used + length], 8)
+        used += length
+    return s
+
+
+def file_length(parts):
+    """By the numbers of things alone: also of parts that do not fit together."""
+    flags, roots, block, words, external, hashes, keys, lengths, held = parts
+    externals = external_count(words)
+    counts = [len(words) - externals, externals, len(roots), len(block), len(lengths), *lengths]
+    return (8 + sum(map(shortest_len, counts)) + 4 * len(roots) + len(block) + 8 * len(words) + len(external)
+            + len(hashes) + 8 * len(keys) + 8 * len(held))
+
+
+def writer_rules(facts, parts, room):
+    """The writer's table: name, number, place, whether it is met. All lines are asked of any parts."""
+    flags, roots, block, words, external, hashes, keys, lengths, held = parts
+    mask, reserved, maximum = facts[7:]
+    externals = external_count(words)
+    yield "FORMAT", FORMAT, 0, bad_format(facts)
+    yield "FLAGS", FLAGS, 4, flags & reserved != 0
+    yield "TOO-MANY", TOO_MANY, 0, len(words) > maximum
+    for i, word in enumerate(words):
+        yield "TAG", TAG, i, word // 2**60 > 8
+        yield "PAYLOAD", PAYLOAD, i, word // 2**60 in (2, 3, 4, 5) and word % 2**60 > 2**32 - 1
+    yield "PARTS 1", PARTS, 1, len(external) != 32 * externals
+    yield "PARTS 2", PARTS, 2, len(hashes) != (0 if flags & mask else 32 * (len(words) - externals))
+    yield "PARTS 3", PARTS, 3, len(keys) != 4 * len(lengths)
+    yield "PARTS 4", PARTS, 4, len(held) != sum(lengths)
+    rows = [tuple(keys[4 * i:4 * i + 4]) for i in range(len(lengths))]
+    for i, key in enumerate(rows):
+        yield "ELEMENT", ELEMENT, i, any(x >= MODULUS for x in key)
+        yield "DUPLICATE", DUPLICATE, i, key in rows[:i]
+    yield "OVERFLOW", OVERFLOW, 0, over(file_length(parts)) > 0
+    yield "ROOM", ROOM, file_length(parts), room < file_length(parts)
+
+
+def met(facts, parts, room):
+    return [(name, number, place) for name, number, place, is_met in writer_rules(facts, parts, room) if is_met]
+
+
+def write(facts, parts, out):
+    """The answer and the output after it."""
+    refusals = met(facts, parts, len(out))
+    if refusals:
+        return list(refusals[0][1:]), out
+    written = file_of(facts, as_read(parts))
+    assert len(written) == file_length(parts)
+    return [0, len(written)], written + out[len(written):]
+
+
+def file_parts(s, facts):
+    """The parts of a file that scan and walk accept, its map's end, and its counts' lengths beside the shortest."""
+    number, nodes, internal, external, roots, roots_at, blocks_at, block, entries_at, digests_at, hashed, hashes_at, at = (
+        scan_layout(s, *facts, 1, 0, 0))
+    assert number == 0
+    end_of_digests = hashes_at if hashed else at
+    parts = [s[4], [le(s[k:k + 4]) for k in range(roots_at, roots_at + 4 * roots, 4)], s[blocks_at:blocks_at + block],
+             [le(s[k:k + 8]) for k in range(entries_at, entries_at + 8 * nodes, 8)], s[digests_at:end_of_digests],
+             s[end_of_digests:at], [], [], []]
+    counts = [read_count(s, 8)]
+    counts += [read_count(s, counts[0][3])]
+    counts += [read_count(s, counts[1][3]), read_count(s, roots_at + 4 * roots), read_count(s, at)]
+    walked = walk(s, at, TOP)
+    _, n, _, at = counts[4]
+    for _ in range(n):
+        counts += [read_count(s, at + 32)]
+        _, length, _, values_at = counts[-1]
+        parts[6] += word_at(s, at)
+        parts[7] += [length]
+        at = values_at + 8 * length
+        parts[8] += [le(s[k:k + 8]) for k in range(values_at, at, 8)]
+    assert walked[0] == 0 and len(walked[1]) == n and walked[2] == at
+    return parts, at, [(size, shortest_len(value)) for _, value, size, _ in counts]
+
+
+def list_of(parts):
+    return [parts[0]] + [x for group in parts[1:] for x in (len(group), *group)]
+
+
+def parts_of(numbers):
+    parts, at = [numbers[0]], 1
+    while at < len(numbers):
+        parts += [list(numbers[at + 1:at + 1 + numbers[at]])]
+        at += 1 + numbers[at]
+    assert len(parts) == 9 and at == len(numbers)
+    return parts
+
+
+FILLED = [i % 251 + 1 for i in range(1024)]  # the output before
+
+
+def rewrite(s, *facts):
+    parts, end, counts = file_parts(s, facts)
+    answer, out = write(facts, parts, FILLED[:end])
+    assert answer[0] == 0, answer
+    written = out[:answer[1]]
+    again, _, counts_again = file_parts(written, facts)
+    same, equal = as_read(again) == as_read(parts), s[:len(written)] == written
+    # document 01: the same parts always; no longer, and as long exactly if each count has its shortest form;
+    # so equal bytes exactly if, besides, each entry has its written form
+    shortest = all(size == least for size, least in counts)
+    assert same and len(written) <= end and (len(written) == end) == shortest
+    assert equal == (shortest and parts == as_read(parts)) and all(size == least for size, least in counts_again)
+    assert again == as_read(parts) and written == file_of(facts, again)
+    return [end, *answer, int(equal), int(same), int(len(written) <= end), large_sum(written), large_sum(list_of(parts))]
+
+
+def write_parts(s, *args):
+    answer, out = write(args[:10], parts_of(args[11:]), FILLED[:args[10]])
+    return [*answer, large_sum(out + FILLED[len(out):])]
+
+
 POINTS = {
     "refusal_number": lambda s, i: [i],
     "is_short": lambda s, at, n: [int(is_short(s, at, n))],
@@ -554,6 +709,8 @@ POINTS = {
     "large_walk": large_walk,
     "large_lookup": large_lookup,
     "large_values": large_values,
+    "rewrite": rewrite,
+    "write_parts": write_parts,
 }
 
 # ---- the model, where it has the entry point
@@ -1528,6 +1685,230 @@ def large_well_covered(answers):
                         assert answer[:3] == [0, places[key] + 33, len(held)] and answer[3] <= n.bit_length()
 
 
+def small(n):
+    """Bytes: most are one digit, so that lines are short."""
+    return [rng.randrange(10) if rng.random() < 0.8 else rng.randrange(256) for _ in range(n)]
+
+
+def some_word(raw):
+    """An entry's word; `raw`: what is ignored when read may be any."""
+    kind = rng.randrange(9)
+    ids = rng.choice((0, 1, 2**30 + 2, 2**32 - 1, rng.getrandbits(32)))
+    if kind < 2:
+        ids = rng.choice((ids, 2**60 - 1, rng.getrandbits(60)))
+    return kind * 2**60 + (ids if kind < 6 else rng.choice((1, 9, 2**60 - 1)) * raw)
+
+
+def some_facts():
+    """Facts that leave some flag bits free, and flags of theirs."""
+    if rng.random() < 0.6:
+        mask, reserved = 2, rng.choice((0xFC, 0xF0, 0))
+        facts = [*FACTS[:7], mask, reserved, rng.choice((FACTS[9], 6, 2**30))]
+    else:
+        mask = 1 << rng.randrange(8)
+        reserved = rng.randrange(256) & ~mask & rng.randrange(256)
+        facts = [*small(7), mask, reserved, rng.choice((6, 2**30, 1000))]
+    return facts, rng.randrange(256) & ~mask & ~reserved & rng.choice((0, 255))
+
+
+def some_parts(facts, flags, hashless, nodes, entries, raw=False, roots=0, block=0, order=SHUFFLED):
+    """Parts that fit together."""
+    words = [some_word(raw) for _ in range(nodes)]
+    externals = external_count(words)
+    keys = set()
+    while len(keys) < entries:
+        keys.add(tuple(rng.choice((0, 1, 7, 255, number() % MODULUS if rng.random() < 0.3 else 2)) for _ in range(4)))
+    keys = sorted(keys, reverse=order == FALLING)
+    if order == SHUFFLED:
+        rng.shuffle(keys)
+    lengths = [rng.choice((0, 1, 1, 2, 3, 5)) for _ in keys]
+    held = [rng.choice((0, 5, 9, rng.randrange(1000), TOP)) for _ in range(sum(lengths))]
+    roots = [rng.choice((0, 3, 9, 2**32 - 1, rng.getrandbits(32))) for _ in range(roots)]
+    return [flags | facts[7] * hashless, roots, small(block), words, small(32 * externals),
+            small(0 if hashless else 32 * (nodes - externals)), [x for key in keys for x in key], lengths, held]
+
+
+def rewrites():
+    def held(facts, parts, sizes=(), after=0):
+        plain = [parts[0], *parts[1:4], *([0] * len(part) for part in parts[4:6]), [], [], []]
+        rows = [list(word.to_bytes(8, "little")) for word in parts[3]]
+        four = [*sizes, 0, 0, 0, 0][:4]
+        assert file_of(facts, plain, four) == forest(rows, *parts[1:3], parts[0], facts, sizes=four)
+        s = file_of(facts, parts, sizes)
+        assert file_parts(s, facts)[0] == parts
+        case("rewrite", *facts, s=s + small(after))
+
+    for k in range(6):  # each count in each longer form alone: the last is the length of some values
+        for size in range(2, 10):
+            facts, flags = some_facts()
+            entries = rng.randrange(1, 3)
+            parts = some_parts(facts, flags, size % 2, rng.randrange(3), entries, raw=size > 5, roots=rng.randrange(3),
+                               block=rng.randrange(4))
+            at = k + (rng.randrange(entries) if k == 5 else 0)
+            held(facts, parts, [size * (i == at) for i in range(5 + entries)], after=rng.choice((0, 0, 3)))
+    for i in range(280):
+        facts, flags = some_facts()
+        nodes = (0, 1, 1, 2, 2, 3, 4, 6)[i % 8]
+        entries = rng.choice((0, 0, 1, 1, 2, 3, 6 if nodes < 3 else 4))
+        parts = some_parts(facts, flags, rng.random() < 0.6, nodes, entries, raw=i % 4 > 1, roots=rng.randrange(6),
+                           block=rng.choice((0, 1, 3, 8, 40)), order=rng.randrange(3))
+        sizes = []
+        if i % 2:
+            sizes = [rng.choice((0, rng.randrange(2, 10))) for _ in range(5 + entries)]
+        held(facts, parts, sizes, after=rng.choice((0, 0, 1, 5)))
+    for block in 127, 128, 200:  # a count that needs two bytes, and one beside it
+        for size in 0, 2, 3, 9:
+            facts, flags = some_facts()
+            parts = some_parts(facts, flags, 1, 1, 1, block=block)
+            held(facts, parts, [0, 0, 0, size])
+    held(FACTS, [0, *[[]] * 8])
+    held(FACTS, [NO_HASHES, *[[]] * 8], [9] * 5)
+
+
+def bad_word(tag):
+    return rng.choice((9, 10, 15)) * 2**60 + 5 if tag else rng.randrange(2, 6) * 2**60 + rng.choice((2**32, 2**60 - 1))
+
+
+def cut_or_more(part, *sizes):
+    """Longer or shorter by one of the sizes."""
+    by = rng.choice(sizes)
+    return part[:-by] if len(part) >= by and rng.randrange(2) else part + [1] * by
+
+
+# what makes parts meet a line of the writer's table, in its order: on facts and parts, at the node or key `at`
+def spoil(name, facts, parts, at):
+    if name == "FORMAT":
+        facts[7:] = rng.choice(([0, *facts[8:]], [facts[7] | 3 << 3, *facts[8:]], [facts[7], facts[8] | facts[7], facts[9]],
+                                [*facts[7:9], 2**30 + 1], [*facts[7:9], TOP]))
+    elif name == "FLAGS":
+        parts[0] |= facts[8] & -facts[8]
+    elif name == "TOO-MANY":
+        facts[9] = rng.choice((0, len(parts[3]) - 1))
+    elif name in ("TAG", "PAYLOAD"):
+        parts[3][at] = bad_word(name == "TAG")
+    elif name == "PARTS 1":
+        parts[4] = cut_or_more(parts[4], 1, 31, 32)
+    elif name == "PARTS 2":
+        parts[5] = cut_or_more(parts[5], 1, 31, 32)
+    elif name == "PARTS 3":
+        parts[6] = cut_or_more(parts[6], 1, 3, 4)
+    elif name == "PARTS 4":
+        parts[8] = cut_or_more(parts[8], 1, 2)
+    elif name == "ELEMENT":
+        parts[6][4 * at + rng.randrange(4)] = rng.choice((MODULUS, MODULUS + 1, TOP))
+    elif name == "DUPLICATE":
+        other = rng.randrange(at)
+        parts[6][4 * at:4 * at + 4] = parts[6][4 * other:4 * other + 4]
+
+
+LINES = "FORMAT,FLAGS,TOO-MANY,TAG,PAYLOAD,PARTS 1,PARTS 2,PARTS 3,PARTS 4,ELEMENT,DUPLICATE,ROOM".split(",")
+# both of two lines met, and the first of them given; TAG and PAYLOAD go node by node, ELEMENT and DUPLICATE key by key
+PAIRS = [*zip(LINES, LINES[1:]), ("PAYLOAD", "TAG"), ("TAG", "PARTS 1"), ("TOO-MANY", "PAYLOAD"), ("DUPLICATE", "ELEMENT"),
+         ("PARTS 4", "DUPLICATE"), ("ELEMENT", "ROOM"), ("FORMAT", "ROOM"), ("PARTS 1", "ROOM")]
+
+
+def written_parts():
+    def asked(facts, parts, spare):
+        room = min(max(file_length(parts) + spare, 0), len(FILLED))
+        case("write_parts", *facts, room, *list_of(parts))
+        return [name for name, *_ in met(facts, parts, room)]
+
+    def some_case(entries=None, order=SHUFFLED, hashless=None):
+        flags = rng.choice((0, 1))
+        facts = [*FACTS[:8], 0xF8, rng.choice((6, FACTS[9]))]
+        return facts, some_parts(facts, flags, rng.randrange(2) if hashless is None else hashless, rng.randrange(2, 4),
+                                 rng.randrange(3, 5) if entries is None else entries, raw=rng.randrange(2) > 0,
+                                 roots=rng.randrange(3), block=rng.randrange(4), order=order)
+
+    for order in RISING, FALLING, SHUFFLED:
+        for entries in 0, 1, 2, 3, 6:
+            for spare in (0, rng.choice((1, 100, 700))):
+                facts, parts = some_case(entries, order)
+                assert asked(facts, parts, spare) == []
+    for spare in -1, -1, -1, -2, -8, -30, -100, -1024:
+        facts, parts = some_case()
+        assert asked(facts, parts, spare) == ["ROOM"]
+    for name in LINES[:-1]:
+        for i in range(6):
+            facts, parts = some_case(order=rng.randrange(3), hashless=i % 2)
+            at = (1, 2, 1, 2, -1, -1)[i] % len(parts[7])
+            if name in ("TAG", "PAYLOAD"):
+                at = (0, 1, 1, 0, -1, -1)[i] % len(parts[3])
+            elif name == "ELEMENT" and i < 3:
+                at = i
+            spoil(name, facts, parts, at)
+            assert asked(facts, parts, rng.choice((0, 0, 9)))[0] == name
+    for order in RISING, FALLING, SHUFFLED:  # a key again: at once, later, last
+        for at in 1, 3, 5:
+            facts, parts = some_case(6, order, 1)
+            spoil("DUPLICATE", facts, parts, at)
+            assert asked(facts, parts, 0) == ["DUPLICATE"]
+    for first, second in PAIRS:
+        for i in range(3):
+            facts, parts = some_case(hashless=i % 2)
+            places = {"TAG": 0, "PAYLOAD": 0, "ELEMENT": 1, "DUPLICATE": 1}
+            if {first, second} in ({"TAG", "PAYLOAD"}, {"ELEMENT", "DUPLICATE"}):
+                places[second] += 1
+            if (first, second) == ("ELEMENT", "DUPLICATE") and i == 0:  # of one key: the earlier one is no word either
+                parts[6][0:8] = [TOP, 1, 2, 3] * 2
+            else:
+                spoil(first, facts, parts, places.get(first, 0))
+                spoil(second, facts, parts, places.get(second, 0))
+            lines = asked(facts, parts, -rng.choice((1, 2, 40)) if second == "ROOM" else 0)
+            assert lines[0] == first and second in lines, (first, second, lines)
+    for wrapped in [2**63, 2**63], [TOP, 1], [2**64 - 5, 2, 3], [2**62] * 4:  # the sum is a true number
+        for more in [], [2]:
+            facts, parts = some_case(len(wrapped) + len(more))
+            parts[7], parts[8] = wrapped + more, [5] * sum(more)
+            assert sum(parts[7]) % 2**64 == len(parts[8]) and asked(facts, parts, 0)[0] == "PARTS 4"
+
+
+def writer_well_covered(answers):
+    """How many files have what, and how often each line of the writer's table refuses."""
+    files = [(args, s, *file_parts(s, args), answer) for (name, args, s), answer in zip(cases, answers) if name == "rewrite"]
+    longer = [[size > least for size, least in counts] for *_, counts, _ in files]
+    assert len(files) >= 320 and sum(map(any, longer)) >= 120
+    for k in range(6):
+        forms = {size for *_, counts, _ in files for size, least in (counts[5:] if k == 5 else counts[k:k + 1]) if size > least}
+        assert forms == set(range(2, 10)), k
+    kinds = [word >> 60 for _, _, parts, *_ in files for word in parts[3]]
+    assert all(kinds.count(kind) > 20 for kind in range(9))
+    raw = [{word >> 60 for word in parts[3] if word != canonical(word)} for _, _, parts, *_ in files]
+    assert all(sum(kind in some for some in raw) > 10 for kind in (6, 7, 8))
+    for is_long in False, True:  # with all counts shortest and not, all entries canonical and not, hashless and not
+        for is_raw in False, True:
+            for hashless in False, True:
+                seen = [answer for (args, _, parts, *_, answer), some, long in zip(files, raw, longer)
+                        if (any(long), bool(some), parts[0] & args[7] != 0) == (is_long, is_raw, hashless)]
+                assert len(seen) > 9 and all(answer[3] == (not is_long and not is_raw) for answer in seen)
+    assert {len(parts[3]) for _, _, parts, *_ in files} >= set(range(5)) | {6}
+    assert {len(parts[1]) for _, _, parts, *_ in files} == set(range(6))
+    assert {len(parts[7]) for _, _, parts, *_ in files} >= set(range(5)) | {6}
+    assert {length for _, _, parts, *_ in files for length in parts[7]} == {0, 1, 2, 3, 5}
+    assert sum(parts[0] & ~args[7] != 0 for args, _, parts, *_ in files) > 40  # free bits set
+    assert sum(args[:9] != FACTS[:9] for args, *_ in files) > 80
+    assert sum(len(s) > end for _, s, _, end, *_ in files) > 80
+    orders = [[tuple(parts[6][i:i + 4]) for i in range(0, len(parts[6]), 4)] for _, _, parts, *_ in files]
+    assert sum(len(keys) > 1 and keys == sorted(keys) for keys in orders) > 20
+    assert sum(len(keys) > 1 and keys == sorted(keys)[::-1] for keys in orders) > 20
+    assert sum(keys not in (sorted(keys), sorted(keys)[::-1]) for keys in orders) > 20
+    made = [(args, answer) for (name, args, _), answer in zip(cases, answers) if name == "write_parts"]
+    lines = [met(args[:10], parts_of(args[11:]), args[10]) for args, _ in made]
+    assert len(made) >= 140 and all(answer[:2] == list(seen[0][1:]) for (_, answer), seen in zip(made, lines) if seen)
+    given = [seen[0][0] if seen else None for seen in lines]
+    assert set(given) == {None, *LINES} and all(given.count(name) >= 5 for name in set(given))
+    for first, second in PAIRS:
+        assert sum(names[:1] == [first] and second in names for names in ([name for name, *_ in seen] for seen in lines)) >= 3
+    untouched = large_sum(FILLED)
+    assert all((answer[-1] == untouched) == (answer[0] != 0) for _, answer in made)
+    assert {place for (_, (number, place, *_)) in made if number == DUPLICATE} >= {1, 2, 3, 5}
+    assert {place for (_, (number, place, *_)) in made if number == ELEMENT} >= {0, 1, 2, 3}
+    short = [answer[1] - args[10] for args, answer in made if answer[0] == ROOM]
+    spare = [args[10] - answer[1] for args, answer in made if answer[0] == 0]
+    assert 1 in short and max(short) > 99 and min(short) > 0 and {0, 1} <= set(spare) and max(spare) > 99 and min(spare) == 0
+    return {name or "written": given.count(name) for name in [None, *LINES]} | {"longer forms": sum(map(any, longer))}
+
+
 def well_covered():
     """Each line of the scan's table refuses two files or more, one by the least that can be, and is passed
     by one at the limit itself. (4 x roots is never 2 ** 64 - 1: the nearest is 3 below.)"""
@@ -1559,6 +1940,7 @@ SAID = {
     "lookup": {0, SHORT, OVERFLOW, ELEMENT, ROOM},
     "large_walk": {0, SHORT, DUPLICATE, ROOM},
     "large_lookup": {0, SHORT, ELEMENT, ROOM},
+    "write_parts": {0, FORMAT, FLAGS, TOO_MANY, TAG, PAYLOAD, PARTS, ELEMENT, DUPLICATE, ROOM},
 }
 
 
@@ -1569,11 +1951,12 @@ def main(oracle, model_folder):
     by_model = modelled(model)
     for make in (bench, numbers, counts, words, entries, bench_files, headers, sizes, sections,
                  entries_of_files, many_entries, random_files, rows_by_number, readers_by_index, slots, digests,
-                 node_checks, maps, large_maps):
+                 node_checks, maps, large_maps, rewrites, written_parts):
         make()
     well_covered()
     answers = [POINTS[name](s, *args) for name, args, s in cases]
     large_well_covered(answers)
+    writer_seen = writer_well_covered(answers)
     for point, numbers_said in SAID.items():
         assert {a[0] for (name, *_), a in zip(cases, answers) if name == point} == numbers_said, point
     asked = [commands(name, s, args, answer) for (name, args, s), answer in zip(cases, answers)]
@@ -1593,6 +1976,12 @@ def main(oracle, model_folder):
             # the shim says a count's value alone
             assert reply == (answer[:2] if name == "read_count" else answer), (name, args, s, reply, answer)
             source = source if name == "read_count" else "the published Rust"
+        if name in ("rewrite", "write_parts"):  # nor a writer of files: it reads what is written, to the end
+            facts = args[:10]
+            parts = file_parts(s, facts)[0] if name == "rewrite" else parts_of(args[11:])
+            (refusal, n), out = write(facts, parts, FILLED[:(args[10:] or [len(FILLED)])[0]])
+            layout = [refusal] if refusal else by_model["scan_layout"](out[:n], *facts, 1, 0, 0)
+            assert refusal or (layout[0], *by_model["walk_map"](out[:n], layout[-1], *[0] * 8)[:3]) == (0, 0, len(parts[7]), n)
         if name == "write_count" and answer[0] == 0:  # the model has no count writer: it reads back
             assert model.count(bytes(answer[2:]), args[0]) == (args[1], answer[1])
         seen[name] += 1
@@ -1604,7 +1993,7 @@ def main(oracle, model_folder):
     (crate / "stdin").write_text("".join(line + "\n" for line in lines))
     seen["total"] = len(lines)
     (crate / "stdout").write_text("".join(f"{name} {n} of {n}\n" for name, n in seen.items()))
-    for name, n in [*seen.items(), *sources.items()]:
+    for name, n in [*seen.items(), *sources.items(), *writer_seen.items()]:
         print(n, name)
 
 

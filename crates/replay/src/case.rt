@@ -20,13 +20,13 @@ pub(crate) enum Verdict {
 }
 
 // A part of a line's numbers: a count at `at`, and as many numbers after it.
-struct Part {
-    whole: bool,
-    from: usize,
-    to: usize,
+pub(crate) struct Part {
+    pub(crate) whole: bool,
+    pub(crate) from: usize,
+    pub(crate) to: usize,
 }
 
-fn part_at(t: &[u64], at: usize) -> Part
+pub(crate) fn part_at(t: &[u64], at: usize) -> Part
     ensures { λ r. ⌜ (r .from ≤ r .to) × (r .to ≤ length (now (t .entry))) ⌝ }
 {
     if t.len() <= at {
@@ -59,7 +59,7 @@ pub(crate) struct Stored {
 }
 
 // Puts numbers that are all bytes at the start of `out`.
-fn store(numbers: &[u64], out: &mut [u8]) -> Stored
+pub(crate) fn store(numbers: &[u64], out: &mut [u8]) -> Stored
     ensures { λ r. ⌜ Counts (r .count) (now (out .exit)) ⌝ }
 {
     if out.len() < numbers.len() {

@@ -11,35 +11,8 @@ use crate::maps::lookup_row;
 use crate::maps::values_of;
 use crate::maps::walk_map_row;
 use crate::row::Row;
-
-// One number more in a sum that depends on each number and on its place.
-fn mixed(sum: u64, x: u64) -> u64 {
-    (sum % 1_125_899_906_842_597 * 8191 + x % 1_125_899_906_842_597) % 1_125_899_906_842_597
-}
-
-fn sum_of(table: &[u64]) -> u64 {
-    let mut sum: u64 = 1;
-    let mut i = 0;
-    while i < table.len() {
-        sum = mixed(sum, table[i]);
-        i += 1;
-    }
-    sum
-}
-
-fn wide(x: u8) -> u64 {
-    x as u64
-}
-
-fn sum_of_bytes(part: &[u8]) -> u64 {
-    let mut sum: u64 = 1;
-    let mut i = 0;
-    while i < part.len() {
-        sum = mixed(sum, wide(part[i]));
-        i += 1;
-    }
-    sum
-}
+use crate::sums::sum_of;
+use crate::sums::sum_of_bytes;
 
 // What stands in a table before the walk: neither 0 nor an offset, and at each place another number.
 fn mark(table: &mut [u64]) {

@@ -8,9 +8,9 @@
 //
 // points.rt has the entry points with their arguments, row.rt what an answer is. After an answer's
 // own numbers come the bytes that were lent, whole, where an entry point writes. A map that no line
-// holds is made here by a formula: large.rt.
+// holds is made here by a formula: large.rt. What the writer leaves is answered by a sum: rewrite.rt.
 //
-// Limits: 2,097,152 bytes of text, 65,536 numbers in a line, 40,960 bytes of a case. What is longer is
+// Limits: 2,359,296 bytes of text, 65,536 numbers in a line, 40,960 bytes of a case. What is longer is
 // printed as such, and so is every line that cannot be read: none is passed over.
 use libc::STDIN_FILENO;
 use libc::STDOUT_FILENO;
@@ -23,14 +23,18 @@ mod facts;
 mod forests;
 mod formula;
 mod large;
+mod lent;
+mod listed;
 mod made;
 mod maps;
 mod nodes;
 mod numbers;
 mod points;
 mod report;
+mod rewrite;
 mod row;
 mod sections;
+mod sums;
 mod tables;
 mod text;
 mod words;
@@ -57,17 +61,17 @@ fn replay(text: &[u8]) {
 
 // Room for the text. A function of its own, so that a proof knows the array by its length alone: its
 // zeros are too many to look at.
-fn room() -> [u8; 2097153] {
-    [0; 2097153]
+fn room() -> [u8; 2359297] {
+    [0; 2359297]
 }
 
 fn main() {
     let mut text = room();
     let n = io::read_full(STDIN_FILENO, &mut text);
-    if n == 2097153 {
+    if n == 2359297 {
         io::write_all(
             STDOUT_FILENO,
-            b"more than 2097152 bytes: nothing replayed\n",
+            b"more than 2359296 bytes: nothing replayed\n",
         );
         return;
     }

@@ -8,11 +8,12 @@ use crate::forests;
 use crate::large;
 use crate::nodes;
 use crate::numbers;
+use crate::rewrite;
 use crate::row::Row;
 use crate::sections;
 use crate::words;
 
-pub(crate) const LAST: u64 = 37;
+pub(crate) const LAST: u64 = 39;
 
 pub(crate) fn is_known(point: u64) -> bool {
     if point < 1 {
@@ -33,8 +34,10 @@ pub(crate) fn arity(point: u64) -> usize {
         // a kind and two ids, 0 where the kind has none
         // the first row's place, the size of a row, its number
         16 | 19 => 3,
-        // facts
-        18 => 10,
+        // facts; facts, and a file of them
+        18 | 38 => 10,
+        // facts, and the room of the output
+        39 => 11,
         // facts, whether hashless is allowed, and a bound; a layout record and an index
         22 | 23 | 24 | 26 | 31 => 13,
         // a layout record; a layout record and a bound
@@ -52,10 +55,10 @@ pub(crate) fn arity(point: u64) -> usize {
 
 // Whether a table is lent: tables.rt has the calls.
 pub(crate) fn lends(point: u64) -> bool {
-    if point < 30 {
-        return false;
+    match point {
+        30..=34 | 39 => true,
+        _ => false,
     }
-    point < 35
 }
 
 // Whether an entry point writes to the bytes.
@@ -96,6 +99,7 @@ pub(crate) fn run(point: u64, args: &[u64], s: &mut [u8]) -> Row {
         28 => nodes::check_order_row(args, s),
         29 => nodes::check_strict_row(args, s),
         35..=37 => large::large_row(point, args),
+        38 => rewrite::rewrite_row(args, s),
         _ => Row::none(),
     }
 }

@@ -70,7 +70,9 @@ fn print_large_name(point: u64) {
     match point {
         35 => print(b"large_walk"),
         36 => print(b"large_lookup"),
-        _ => print(b"large_values"),
+        37 => print(b"large_values"),
+        38 => print(b"rewrite"),
+        _ => print(b"write_parts"),
     }
 }
 

@@ -49,8 +49,12 @@ impl Row {
         self.then(w[0]).then(w[1]).then(w[2]).then(w[3])
     }
 
+    pub(crate) fn then_bool(self, b: bool) -> Row {
+        if b { self.then(1) } else { self.then(0) }
+    }
+
     pub(crate) fn of_bool(b: bool) -> Row {
-        if b { Row::of(1) } else { Row::of(0) }
+        Row::none().then_bool(b)
     }
 
     pub(crate) fn of_refusal(why: Refusal, at: ByteOffset) -> Row {
@@ -105,7 +109,7 @@ pub(crate) fn is_recorded_with(n: usize, row: [u64; 16], lent: &[u64], recorded:
     false
 }
 
-fn same_numbers(a: &[u64], b: &[u64]) -> bool
+pub(crate) fn same_numbers(a: &[u64], b: &[u64]) -> bool
     ensures { λ r. ⌜ (r ≡ true → now (a .entry) ≡ now (b .entry)) ⌝ }
 {
     if a.len() != b.len() {
@@ -137,7 +141,7 @@ fn same_bytes(a: &[u8], b: &[u64]) -> bool
     true
 }
 
-fn wide(x: u8) -> u64
+pub(crate) fn wide(x: u8) -> u64
     ensures { λ r. ⌜ r ≡ x ⌝ }
 {
     x as u64

@@ -1,11 +1,12 @@
 // Cases that lend a table: its numbers come after the arguments, and after the answer the table as the
-// call leaves it.
+// call leaves it. The list of parts that the writer is given comes so too, and is only read.
 use crate::case::Stored;
 use crate::maps::lookup_row;
 use crate::maps::values_of;
 use crate::maps::walk_map_row;
 use crate::nodes::build_slots_row;
 use crate::nodes::digest_with_table_row;
+use crate::rewrite::write_parts_row;
 use crate::row::Row;
 use crate::row::is_recorded;
 use crate::row::is_recorded_with;
@@ -34,7 +35,7 @@ fn copy(numbers: &[u64], out: &mut [u64]) -> Stored
 }
 
 // Puts numbers that are all below 2^32 at the start of `out`.
-fn narrow(numbers: &[u64], out: &mut [u32]) -> Stored
+pub(crate) fn narrow(numbers: &[u64], out: &mut [u32]) -> Stored
     ensures { λ r. ⌜ Counts (r .count) (now (out .exit)) ⌝ }
 {
     if out.len() < numbers.len() {
@@ -156,6 +157,7 @@ pub(crate) fn agrees_with_table(
     match point {
         30 | 31 => slots_agree(point, args, s, lent, recorded),
         32 => walk_agrees(args, s, lent, recorded),
+        39 => holds_row(write_parts_row(args, lent), &s[..0], recorded),
         _ => lookup_agrees(point, args, s, lent, recorded),
     }
 }

@@ -1,9 +1,9 @@
--- `replay::large::sum_of` is safe and ends.
+-- `replay::sums::sum_of` is safe and ends.
 use Prim.Native.Nat.{_-_, _≤_}
 use borrow.Author.Needs.{needs}
 use lib.ListN.{length}
-use Rattle.replay.proofs.large.sum_of.Statement.{statement}
-use Rattle.replay.proofs.large.sum_of.Tie as tie
+use Rattle.replay.proofs.sums.sum_of.Statement.{statement}
+use Rattle.replay.proofs.sums.sum_of.Tie as tie
 
 abbrev Inv-loop : tie.InvT-loop
 Inv-loop table sum₀ i₀ sum i = i ≤ length table
