@@ -15,6 +15,7 @@ use Rattle.wire.proofs.number.u32_at.Reads as u32-at
 use Rattle.wire.proofs.number.u64_at.Reads as u64-at
 use Rattle.wire.proofs.number.read_u32.Reads as read-u32
 use Rattle.wire.proofs.number.read_u64.Reads as read-u64
+use Rattle.wire.proofs.number.put_le.Reads as put-le
 use Rattle.wire.proofs.count.read_count.Reads as read-count
 use Rattle.wire.proofs.count.shortest_len.Reads as shortest-len
 use Rattle.wire.proofs.count.write_count.Reads as write-count
@@ -85,6 +86,9 @@ read-u32-one κs a r r′ e e′ p p′ = same-answer shownNumber numberBack num
 
 pub read-u64-one : One read-u64.Post
 read-u64-one κs a r r′ e e′ p p′ = same-answer shownNumber numberBack number-again _ r r′ p p′
+
+pub put-le-leaves : (κs : _) (a : _) (r r′ : _) (e e′ : _) → put-le.Post κs a r e → put-le.Post κs a r′ e′ → now (e .1 .0) ≡ now (e′ .1 .0)
+put-le-leaves κs a r r′ e e′ p p′ = p ∙ sym p′
 
 pub read-count-one : One read-count.Post
 read-count-one κs a r r′ e e′ p p′ = same-answer shownCount countBack count-again _ r r′ p p′

@@ -1,18 +1,19 @@
 -- The laws of counts.
 -- Assumes nothing.
-use mathlib.Core.Path.{_≡_, refl}
+use mathlib.Core.Path.{_≡_, refl, sym, ap, _∙_}
 use mathlib.Core.Bool.{Bool, true, false}
 use mathlib.Core.Logic.{_⊎_, inl, inr, ⊎-elim}
-use mathlib.Core.List.{List, _∷_}
+use mathlib.Core.List.{List, _∷_, _++_, append-assoc, append-nil}
 use Prim.Native.Nat.{ℕ, zero, suc, _+_, _-_, _*_, _/_, _%_, _^_, _≤_, _<_}
-use native.Mathlib.Nat.{lt-of-not-le}
+use native.Mathlib.Nat.{lt-of-not-le, zero-add, add-sub-cancel-left}
+use borrow.Rule.Slice.PartMut.{putMid}
 use native.Mathlib.Omega.{arith}
 use borrow.Author.Tests.{ltb-true, ltb-false, le-leb, lt-leb, lt-ltb, le-ltb}
 use lib.Count.{trailing-le}
 use lib.Dec.{ltb}
-use lib.ListN.{length, getD, set}
+use lib.ListN.{length, take, drop, getD, set, drop-of-length-le}
 use lib.Pow.{pow-add, pow-mono, shl-lt, shl-exact}
-use lib.Seq.{sets}
+use lib.Seq.{sets, sets-eq, drop-drop}
 use native.Mathlib.Numerals.{add-one}
 use Rattle.wire.specs.Table.{refused, accepted, firstMet}
 use Rattle.wire.specs.Refusals.{SHORT, ROOM}
@@ -143,6 +144,16 @@ module _ (len v : ℕ) (f : Form len v) (h : len ≤ 8) where
 
   pub form-shift : (2 * v + 1) * 2 ^ (len - 1) % 2 ^ 64 ≡ (2 * v + 1) * 2 ^ (len - 1)
   form-shift = shl-exact (suc (7 * len)) (len - 1) 64 one-more (omega (arith, f .least))
+
+-- a whole slice stored, and a part that was lent and came back, as a store
+pub sets-whole : (out bs : List ℕ) → length bs ≡ length out → sets out 0 bs ≡ bs
+sets-whole out bs e =
+    sets-eq bs out 0 (omega arith) ∙ rw zero-add (ap (λ (l : List ℕ). bs ++ l) (drop-of-length-le out {i = length bs} (omega arith)) ∙ append-nil bs)
+
+pub part-stored : (out : List ℕ) (at n : ℕ) {part bs : List ℕ} → part ≡ bs → length bs ≡ n → at + n ≤ length out → putMid at (at + n - at) out part ≡ sets out at bs
+part-stored out at n {part} {bs} p l h =
+    let there : at + length bs ≤ length out = omega arith in
+    rw (sets-eq bs out at there, p, add-sub-cancel-left, drop-drop, l) (sym (append-assoc (take at out) bs (drop (at + n) out)))
 
 -- what the code stores is the form
 module _ (out : List ℕ) (at len v : ℕ) (f : Form len v) where

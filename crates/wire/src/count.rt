@@ -1,5 +1,6 @@
 // Counts in the vint64 form: read at any place, written in the shortest form.
 use crate::number::is_short;
+use crate::number::put_le;
 use crate::number::wide;
 use crate::refusal::Refusal;
 use crate::units::ByteOffset;
@@ -8,7 +9,7 @@ ghost use mathlib.Core.Path.{_≡_};
 ghost use Prim.Native.Nat.{_+_, _≤_};
 ghost use lib.ListN.{length};
 ghost use lib.Seq.{sets};
-ghost use Rattle.wire.specs.Le.{leAt, leBytes};
+ghost use Rattle.wire.specs.Le.{leAt};
 ghost use Rattle.wire.specs.Counts.{countOutcome, shortestLen, Form, countForm, writeOutcome, withCount};
 ghost use Rattle.wire.specs.Shown.{shownCount, shownWritten};
 
@@ -83,31 +84,19 @@ pub fn shortest_len(v: u64) -> usize
     len
 }
 
-// Stores the n lowest bytes of x from `at` on, lowest first.
-fn write_le(out: &mut [u8], at: usize, n: usize, x: u64)
-    requires { ⌜ at + n ≤ length (now out) ⌝ }
-    ensures { λ _. ⌜ now (out .exit) ≡ sets (now (out .entry)) at (leBytes n x) ⌝ }
-{
-    let end = at + n;
-    let mut p = at;
-    let mut rest = x;
-    while p < end {
-        out[p] = (rest % 256) as u8;
-        rest /= 256;
-        p += 1;
-    }
-}
-
 // Stores the form of v in len bytes from `at` on.
 fn write_form(out: &mut [u8], at: usize, len: usize, v: u64)
     requires { ⌜ Form len v × (at + len ≤ length (now out)) ⌝ }
     ensures { λ _. ⌜ now (out .exit) ≡ sets (now (out .entry)) at (countForm len v) ⌝ }
 {
     if len <= 8 {
-        write_le(out, at, len, (2 * v + 1) << (len - 1));
+        let end = at + len;
+        put_le((2 * v + 1) << (len - 1), &mut out[at..end]);
     } else {
         out[at] = 0;
-        write_le(out, at + 1, 8, v);
+        let first = at + 1;
+        let end = first + 8;
+        put_le(v, &mut out[first..end]);
     }
 }
 

@@ -5,7 +5,7 @@ use crate::units::Cursor;
 ghost use mathlib.Core.Path.{_≡_};
 ghost use Prim.Native.Nat.{_+_, _^_, _≤_, _<_};
 ghost use lib.ListN.{length};
-ghost use Rattle.wire.specs.Le.{leAt, isShort, numberAt, numberOutcome};
+ghost use Rattle.wire.specs.Le.{leAt, leBytes, isShort, numberAt, numberOutcome};
 ghost use Rattle.wire.specs.Shown.{shownNumber};
 
 // A number with the place after it, or why there is none.
@@ -90,4 +90,17 @@ pub fn read_u64(s: &[u8], at: ByteOffset) -> NumberRead
     }
     let next = ByteOffset(at.0 + 8);
     NumberRead::Whole(eight_in(s, at.0), Cursor { at: next })
+}
+
+// x's bytes, lowest first, as many as the part holds.
+pub fn put_le(x: u64, part: &mut [u8])
+    ensures { λ _. ⌜ now (part .exit) ≡ leBytes (length (now (part .entry))) x ⌝ }
+{
+    let mut rest = x;
+    let mut i = 0;
+    while i < part.len() {
+        part[i] = (rest % 256) as u8;
+        rest /= 256;
+        i += 1;
+    }
 }

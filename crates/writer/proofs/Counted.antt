@@ -1,24 +1,18 @@
 -- A count that is written into a part of its own length. Assumes nothing.
 use mathlib.Core.Path.{_≡_, ap, _∙_}
-use mathlib.Core.List.{List, [], _∷_, _++_, append-nil}
+use mathlib.Core.List.{List, [], _∷_, _++_}
 use Prim.Native.Nat.{ℕ, _+_, _^_, _≤_, _<_}
-use native.Mathlib.Nat.{zero-add}
 use native.Mathlib.Omega.{arith}
-use lib.ListN.{length, drop, drop-of-length-le, length-append}
-use lib.Seq.{sets-eq}
+use lib.ListN.{length, length-append}
 use Rattle.wire.specs.Counts.{shortestLen, countBytes, withCount}
-use Rattle.wire.proofs.Counts.{search-least, shortest-form, write-yes}
+use Rattle.wire.proofs.Counts.{search-least, shortest-form, sets-whole, write-yes}
 use Rattle.wire.proofs.Forms.{length-form}
 
 pub length-count : (v : ℕ) → v < 2 ^ 64 → length (countBytes v) ≡ shortestLen v
 length-count v h = length-form (shortestLen v) v (shortest-form v h)
 
 pub count-alone : (out : List ℕ) (v : ℕ) → v < 2 ^ 64 → length out ≡ shortestLen v → withCount out 0 v ≡ countBytes v
-count-alone out v h e =
-    let n = length-count v h in
-    write-yes out 0 v (omega arith) .1
-    ∙ sets-eq (countBytes v) out 0 (omega arith)
-    ∙ rw (zero-add) (ap (λ (l : List ℕ). countBytes v ++ l) (drop-of-length-le out {i = length (countBytes v)} (omega arith)) ∙ append-nil (countBytes v))
+count-alone out v h e = let n = length-count v h in write-yes out 0 v (omega arith) .1 ∙ sets-whole out (countBytes v) (omega arith)
 
 -- no form has more than 9 bytes
 pub short-most : (v : ℕ) → shortestLen v ≤ 9

@@ -1,25 +1,12 @@
--- Laws of the bytes of a number and of rows of them, as they are written one by one. Assumes nothing.
+-- Laws of rows of numbers, as they are written one by one; the elements of short lists. Assumes nothing.
 use mathlib.Core.Path.{_≡_, refl, sym, ap, _∙_}
 use mathlib.Core.List.{List, [], _∷_, _++_, append-assoc, append-nil}
-use Prim.Native.Nat.{ℕ, zero, suc, _/_, _%_, _^_, _<_}
-use native.Mathlib.Nat.{div-one, div-div-eq-div-mul, le-of-suc-le-suc, not-suc-le-zero}
+use Prim.Native.Nat.{ℕ, zero, suc, _<_}
+use native.Mathlib.Nat.{le-of-suc-le-suc, not-suc-le-zero}
 use native.Mathlib.Omega.{arith}
 use lib.ListN.{length, take, getD}
 use Rattle.wire.specs.Le.{leBytes}
 use Rattle.wire.specs.Rows.{rows}
-
--- a division by 256 before, or after, one by a power of 256 makes the power one more
-low-off : (x k : ℕ) → x / 256 / 256 ^ k ≡ x / 256 ^ suc k
-low-off x k = div-div-eq-div-mul x 256 (256 ^ k) ∙ ap (λ (m : ℕ). x / m) (omega arith)
-
-pub next-off : (x k : ℕ) → x / 256 ^ k / 256 ≡ x / 256 ^ suc k
-next-off x k = div-div-eq-div-mul x (256 ^ k) 256 ∙ ap (λ (m : ℕ). x / m) (omega arith)
-
--- one byte more stands at the end
-pub leBytes-more : (n x : ℕ) → leBytes n x ++ (x / 256 ^ n % 256 ∷ []) ≡ leBytes (suc n) x
-unfolding leBytes
-leBytes-more zero x = rw div-one
-leBytes-more (suc n) x = rw (← low-off) (ap (λ (l : List ℕ). x % 256 ∷ l) (leBytes-more n (x / 256)))
 
 -- one row more stands at the end
 pub rows-more : (n : ℕ) (xs : List ℕ) (i : ℕ) → i < length xs → rows n (take i xs) ++ leBytes n (getD xs i 0) ≡ rows n (take (suc i) xs)

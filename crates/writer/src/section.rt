@@ -1,28 +1,15 @@
 // Section writers. Each is lent a part of exactly its section's length, and fills it.
 use info::canonical_word;
 use wire::count::write_count;
+use wire::number::put_le;
 use wire::units::ByteOffset;
 ghost use mathlib.Core.Path.{_≡_};
 ghost use mathlib.Core.List.{map};
 ghost use Prim.Native.Nat.{_*_};
 ghost use lib.ListN.{length};
-ghost use Rattle.wire.specs.Le.{leBytes};
 ghost use Rattle.wire.specs.Rows.{rows};
 ghost use Rattle.wire.specs.Counts.{shortestLen, countBytes};
 ghost use Rattle.info.specs.Entry.{canonical};
-
-// x's bytes, lowest first, as many as the part holds.
-fn put_le(x: u64, part: &mut [u8])
-    ensures { λ _. ⌜ now (part .exit) ≡ leBytes (length (now (part .entry))) x ⌝ }
-{
-    let mut rest = x;
-    let mut i = 0;
-    while i < part.len() {
-        part[i] = (rest % 256) as u8;
-        rest = rest / 256;
-        i += 1;
-    }
-}
 
 // A count in its shortest form.
 pub(crate) fn put_count(v: u64, part: &mut [u8])
