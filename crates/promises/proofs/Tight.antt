@@ -50,6 +50,9 @@ use Rattle.resolved.proofs.digests.digest_with_table.Reads as digest-with-table
 use Rattle.resolved.proofs.checks.check_children.Reads as check-children
 use Rattle.resolved.proofs.checks.check_order.Reads as check-order
 use Rattle.resolved.proofs.checks.check_strict.Reads as check-strict
+use Rattle.view.proofs.root_in.Reads as root-in
+use Rattle.view.proofs.entry_in.Reads as entry-in
+use Rattle.view.proofs.digest_in.Reads as digest-in
 use Rattle.advice.specs.Shown.{shownWalk, shownLookup}
 use Rattle.advice.proofs.Answers.{walkBack, walk-again, lookupBack, lookup-again}
 use Rattle.advice.proofs.walk.walk_map.Reads as walk-map
@@ -188,6 +191,17 @@ check-order-one κs a r r′ e e′ p p′ = same-answer shownNodes nodesBack no
 
 pub check-strict-one : One check-strict.Post
 check-strict-one κs a r r′ e e′ p p′ = same-answer shownNodes nodesBack nodes-again _ r r′ p p′
+
+-- ---- view: the functions over the bytes and the layout; those over a view have their laws in the crate itself
+
+pub root-in-one : One root-in.Post
+root-in-one κs a r r′ e e′ p p′ = same-answer shownRoot rootBack root-again _ r r′ p p′
+
+pub entry-in-one : One entry-in.Post
+entry-in-one κs a r r′ e e′ p p′ = same-answer shownRow rowBack row-again _ r r′ p p′
+
+pub digest-in-one : One digest-in.Post
+digest-in-one κs a r r′ e e′ p p′ = digest-one _ r r′ p p′
 
 -- ---- advice
 

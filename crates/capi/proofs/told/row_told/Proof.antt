@@ -1,0 +1,14 @@
+-- `capi::told::row_told` meets its contract: each arm is a line of the definitions. Assumes nothing.
+use borrow.Author.Needs.{needs}
+use Rattle.capi.proofs.told.row_told.Statement.{statement}
+use Rattle.capi.proofs.told.row_told.Tie as tie
+
+pub row-told-spec : {M : Type 1} → statement M
+row-told-spec =
+    tie.close
+    (tie.spec
+    (λ c. search needs)
+    (λ c. search needs)
+    (λ c κs. search needs)
+    (λ c. rw (c .before .read .given .1))
+    (λ c. rw (c .before .before .read2 .given .1) (c .entry-told .ensures)))

@@ -1,0 +1,37 @@
+-- What each answer says, by number and values.
+use mathlib.Core.List.{List, [], _∷_}
+use Prim.Native.Nat.{ℕ}
+use Rattle.wire.specs.Table.{Outcome, refused, accepted}
+use Rattle.wire.specs.Refusals.{numberOf}
+use Rattle.capi.specs.Rows.{layoutRow}
+use Rattle.info.specs.declared.MastNodeEntry.{MastNodeEntry}
+use Rattle.layout.specs.declared.forest.ForestLayout.{ForestLayout}
+use Rattle.capi.specs.declared.given.Facts.{Facts}
+use Rattle.capi.specs.declared.given.Facts.the-variants as facts
+use Rattle.capi.specs.declared.given.Record.{Record}
+use Rattle.capi.specs.declared.given.Record.the-variants as record-given
+use Rattle.capi.specs.declared.given.Made.{Made}
+use Rattle.capi.specs.declared.given.Made.the-variants as made
+use Rattle.capi.specs.declared.told.Told.{Told}
+use Rattle.capi.specs.declared.told.Told.the-variants as told
+
+abbrev pub shownTold : Told → Outcome (List ℕ)
+shownTold (told.Refused why at) = refused (numberOf why) at
+shownTold told.Nothing = accepted []
+shownTold (told.One a) = accepted (a ∷ [])
+shownTold (told.Two a b) = accepted (a ∷ b ∷ [])
+shownTold (told.Three a b c) = accepted (a ∷ b ∷ c ∷ [])
+shownTold (told.Four a b c d) = accepted (a ∷ b ∷ c ∷ d ∷ [])
+shownTold (told.Layout l) = accepted (layoutRow l)
+
+abbrev pub shownFacts : Facts → Outcome (Unit {0})
+shownFacts facts.Fit = accepted tt
+shownFacts (facts.Refused why at) = refused (numberOf why) at
+
+abbrev pub shownRecord : Record → Outcome ForestLayout
+shownRecord (record-given.Is l) = accepted l
+shownRecord (record-given.Refused why at) = refused (numberOf why) at
+
+abbrev pub shownMade : Made → Outcome MastNodeEntry
+shownMade (made.Entry e) = accepted e
+shownMade (made.Refused why at) = refused (numberOf why) at

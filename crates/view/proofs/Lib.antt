@@ -1,0 +1,4 @@
+pub mod Contracts
+pub mod Thin
+pub mod Through
+pub mod Tight
