@@ -15,9 +15,11 @@ use Rattle.capi.proofs.calls.vk_children.Reads as children
 use Rattle.capi.proofs.calls.vk_order.Reads as order
 use Rattle.capi.proofs.calls.vk_strict.Reads as strict
 use Rattle.capi.proofs.calls.vk_digest.Reads as digest
+use Rattle.capi.proofs.calls.vk_digest_with_table.Reads as digest-with-table
 use Rattle.capi.proofs.calls.vk_slots.Reads as slots
 use Rattle.capi.proofs.calls.vk_walk.Reads as walk
 use Rattle.capi.proofs.calls.vk_lookup.Reads as lookup
+use Rattle.capi.proofs.calls.vk_values.Reads as values
 use Rattle.capi.proofs.calls.vk_write.Reads as write
 
 -- the results that a promise allows are one
@@ -99,6 +101,12 @@ digest-one κs a r r′ e e′ p p′ = p .0 ∙ sym (p′ .0)
 pub digest-answers : (κs : _) (a : _) (r r′ : _) (e e′ : _) → digest.Post κs a r e → digest.Post κs a r′ e′ → now (e .1 .1 .1 .0) ≡ now (e′ .1 .1 .1 .0)
 digest-answers κs a r r′ e e′ p p′ = p .1 ∙ sym (p′ .1)
 
+pub digest-with-table-one : One digest-with-table.Post
+digest-with-table-one κs a r r′ e e′ p p′ = p .0 ∙ sym (p′ .0)
+
+pub digest-with-table-answers : (κs : _) (a : _) (r r′ : _) (e e′ : _) → digest-with-table.Post κs a r e → digest-with-table.Post κs a r′ e′ → now (e .1 .1 .1 .1 .0) ≡ now (e′ .1 .1 .1 .1 .0)
+digest-with-table-answers κs a r r′ e e′ p p′ = p .1 ∙ sym (p′ .1)
+
 pub slots-one : One slots.Post
 slots-one κs a r r′ e e′ p p′ = p .0 ∙ sym (p′ .0)
 
@@ -122,6 +130,12 @@ lookup-one κs a r r′ e e′ p p′ = p .0 ∙ sym (p′ .0)
 
 pub lookup-answers : (κs : _) (a : _) (r r′ : _) (e e′ : _) → lookup.Post κs a r e → lookup.Post κs a r′ e′ → now (e .1 .1 .1 .1 .0) ≡ now (e′ .1 .1 .1 .1 .0)
 lookup-answers κs a r r′ e e′ p p′ = p .1 ∙ sym (p′ .1)
+
+pub values-one : One values.Post
+values-one κs a r r′ e e′ p p′ = p .0 ∙ sym (p′ .0)
+
+pub values-answers : (κs : _) (a : _) (r r′ : _) (e e′ : _) → values.Post κs a r e → values.Post κs a r′ e′ → now (e .1 .1 .1 .1 .0) ≡ now (e′ .1 .1 .1 .1 .0)
+values-answers κs a r r′ e e′ p p′ = p .1 ∙ sym (p′ .1)
 
 pub write-one : One write.Post
 write-one κs a r r′ e e′ p p′ = p .0 ∙ sym (p′ .0)

@@ -8,14 +8,14 @@ use Rattle.info.specs.Entry.{decodeOutcome, encodeOutcome}
 use Rattle.layout.specs.Scan.{scanOutcome}
 use Rattle.layout.specs.Index.{rootOutcome, nodeOutcome}
 use Rattle.resolved.specs.Checks.{childrenOutcome, orderOutcome, strictOutcome}
-use Rattle.resolved.specs.Digests.{digestByCounting}
+use Rattle.resolved.specs.Digests.{digestByCounting, digestWithTable}
 use Rattle.resolved.specs.Slots.{slotsOutcome, tableAfter}
 use Rattle.advice.specs.Walk.{walkOutcome}
 use Rattle.advice.specs.Lookup.{lookupOutcome}
 use Rattle.writer.specs.Parts.{Parts}
 use Rattle.writer.specs.Writer.{writeOutcome as forestOutcome, outputAfter}
 use Rattle.capi.specs.Given.{fewRule, factsRules, factsOf, layoutOf, boundOf, entryOf}
-use Rattle.capi.specs.Rows.{laid, noRow, oneRow, fourRow, countRow, entryRow, layoutRow, boundRow, walkedRow, lookedRow, after}
+use Rattle.capi.specs.Rows.{laid, noRow, oneRow, fourRow, countRow, entryRow, layoutRow, boundRow, walkedRow, lookedRow, partRow, after}
 
 abbrev pub readCount : List ℕ → ℕ → Outcome (List ℕ)
 readCount s at = laid countRow (countOutcome s at)
@@ -55,6 +55,9 @@ strictCall s layout = layoutOf layout >>= (λ l. laid noRow (strictOutcome s l))
 unfoldable pub digestCall : List ℕ → List ℕ → ℕ → Outcome (List ℕ)
 digestCall s layout i = layoutOf layout >>= (λ l. laid fourRow (digestByCounting s l i))
 
+unfoldable pub digestTableCall : List ℕ → List ℕ → ℕ → List ℕ → Outcome (List ℕ)
+digestTableCall s layout i table = layoutOf layout >>= (λ l. laid fourRow (digestWithTable s l i table))
+
 unfoldable pub slotsCall : List ℕ → List ℕ → ℕ → ℕ → ℕ → Outcome (List ℕ)
 slotsCall s layout flag bytes room = layoutOf layout >>= (λ l. laid boundRow (slotsOutcome s l (boundOf flag bytes) room))
 
@@ -68,6 +71,10 @@ walkCall places s at = laid walkedRow (walkOutcome places s at)
 -- a key is four numbers
 unfoldable pub lookupCall : List ℕ → List ℕ → ℕ → List ℕ → Outcome (List ℕ)
 lookupCall s keys n key = checked (fewRule 4 key ∷ []) >>= (λ _. laid lookedRow (lookupOutcome s keys n (fourRow key)))
+
+-- a refused lookup has an empty part too
+unfoldable pub valuesCall : List ℕ → List ℕ → ℕ → List ℕ → Outcome (List ℕ)
+valuesCall s keys n key = checked (fewRule 4 key ∷ []) >>= (λ _. accepted (partRow (lookupOutcome s keys n (fourRow key))))
 
 unfoldable pub writeCall : List ℕ → Parts → ℕ → Outcome (List ℕ)
 writeCall facts parts room = checked (factsRules facts) >>= (λ _. laid oneRow (forestOutcome (factsOf facts) parts room))

@@ -1,5 +1,5 @@
 -- How an answer is laid out: the number that is returned, and the places of the lent row.
-use Prim.Native.Nat.{ℕ}
+use Prim.Native.Nat.{ℕ, _*_}
 use mathlib.Core.Bool.{Bool}
 use mathlib.Core.List.{List, [], _∷_}
 use lib.Dec.{ltb}
@@ -122,3 +122,9 @@ walkedRow w = w .entries ∷ w .end ∷ []
 abbrev pub lookedRow : Looked → List ℕ
 lookedRow (found at len compared) = 1 ∷ at ∷ len ∷ compared ∷ []
 lookedRow (absent compared) = 0 ∷ 0 ∷ 0 ∷ compared ∷ []
+
+-- the place of the values' part of the file and its number of bytes: 0 and 0 where it is empty because the lookup refuses or says absent
+abbrev pub partRow : Outcome Looked → List ℕ
+partRow (refused n p) = 0 ∷ 0 ∷ []
+partRow (accepted (found at len compared)) = at ∷ 8 * len ∷ []
+partRow (accepted (absent compared)) = 0 ∷ 0 ∷ []

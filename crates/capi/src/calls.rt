@@ -1,6 +1,7 @@
 // The exported functions.
 use crate::said::children_said;
 use crate::said::digest_said;
+use crate::said::digest_table_said;
 use crate::said::encode_said;
 use crate::said::entry_said;
 use crate::said::lookup_said;
@@ -9,6 +10,7 @@ use crate::said::root_said;
 use crate::said::scan_said;
 use crate::said::slots_said;
 use crate::said::strict_said;
+use crate::said::values_said;
 use crate::said::write_said;
 use crate::told::ROOM;
 use crate::told::Told;
@@ -29,7 +31,7 @@ ghost use Rattle.wire.specs.Counts.{withCount};
 ghost use Rattle.advice.specs.Walk.{keyTable};
 ghost use Rattle.writer.specs.Shown.{lent};
 ghost use Rattle.capi.specs.Rows.{answerNumber, answered, unless};
-ghost use Rattle.capi.specs.Calls.{readCount, shortest, writeCount, decodeEntry, encodeCall, scanCall, rootCall, entryCall, childrenCall, orderCall, strictCall, digestCall, slotsCall, slotsAfter, walkCall, lookupCall, writeCall, writeAfter};
+ghost use Rattle.capi.specs.Calls.{readCount, shortest, writeCount, decodeEntry, encodeCall, scanCall, rootCall, entryCall, childrenCall, orderCall, strictCall, digestCall, digestTableCall, slotsCall, slotsAfter, walkCall, lookupCall, valuesCall, writeCall, writeAfter};
 
 // The count at a place: its value, its length, the place after it.
 #[no_mangle]
@@ -151,6 +153,21 @@ pub extern "C" fn vk_digest(s: &[u8], layout: &[u64], index: usize, answer: &mut
     tell(digest_said(s, layout, index), 4, answer)
 }
 
+// The digest of a node, its slot taken from a slot table.
+#[no_mangle]
+pub extern "C" fn vk_digest_with_table(
+    s: &[u8],
+    layout: &[u64],
+    index: usize,
+    table: &[u32],
+    answer: &mut [u64],
+) -> u64
+    ensures { λ r. ⌜ r ≡ answerNumber 4 (now (answer .entry)) (digestTableCall (now (s .entry)) (now (layout .entry)) index (now (table .entry))) ⌝ }
+    ensures { λ _. ⌜ now (answer .exit) ≡ answered 4 (now (answer .entry)) (digestTableCall (now (s .entry)) (now (layout .entry)) index (now (table .entry))) ⌝ }
+{
+    tell(digest_table_said(s, layout, index, table), 4, answer)
+}
+
 // The slot table of the nodes, in the lent table: what is left of the bound.
 #[no_mangle]
 pub extern "C" fn vk_slots(
@@ -199,6 +216,21 @@ pub extern "C" fn vk_lookup(
     ensures { λ _. ⌜ now (answer .exit) ≡ answered 4 (now (answer .entry)) (lookupCall (now (s .entry)) (now (keys .entry)) n (now (key .entry))) ⌝ }
 {
     tell(lookup_said(s, keys, n, key), 4, answer)
+}
+
+// The values of a key as a part of the file: its place and its number of bytes; empty where the lookup refuses or says absent.
+#[no_mangle]
+pub extern "C" fn vk_values(
+    s: &[u8],
+    keys: &[u64],
+    n: usize,
+    key: &[u64],
+    answer: &mut [u64],
+) -> u64
+    ensures { λ r. ⌜ r ≡ answerNumber 2 (now (answer .entry)) (valuesCall (now (s .entry)) (now (keys .entry)) n (now (key .entry))) ⌝ }
+    ensures { λ _. ⌜ now (answer .exit) ≡ answered 2 (now (answer .entry)) (valuesCall (now (s .entry)) (now (keys .entry)) n (now (key .entry))) ⌝ }
+{
+    tell(values_said(s, keys, n, key), 2, answer)
 }
 
 // The file of lent parts, at the start of the output: its length.

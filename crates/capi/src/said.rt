@@ -17,6 +17,7 @@ use crate::told::root_told;
 use crate::told::row_told;
 use crate::told::scan_told;
 use crate::told::slots_told;
+use advice::lookup::MapLookup;
 use advice::lookup::lookup;
 use info::encode_entry;
 use layout::index::read_node_entry_at;
@@ -26,13 +27,17 @@ use resolved::checks::check_children;
 use resolved::checks::check_order;
 use resolved::checks::check_strict;
 use resolved::digests::digest_by_counting;
+use resolved::digests::digest_with_table;
 use resolved::slots::build_slots;
 use wire::refusal::Refusal;
 use writer::file::write_forest;
 ghost use mathlib.Core.Path.{_≡_};
 ghost use lib.ListN.{length};
+ghost use Rattle.wire.specs.Table.{accepted};
+ghost use Rattle.advice.specs.Lookup.{lookupOutcome};
 ghost use Rattle.writer.specs.Shown.{lent};
-ghost use Rattle.capi.specs.Calls.{encodeCall, scanCall, rootCall, entryCall, childrenCall, orderCall, strictCall, digestCall, slotsCall, slotsAfter, lookupCall, writeCall, writeAfter};
+ghost use Rattle.capi.specs.Rows.{partRow};
+ghost use Rattle.capi.specs.Calls.{encodeCall, scanCall, rootCall, entryCall, childrenCall, orderCall, strictCall, digestCall, digestTableCall, slotsCall, slotsAfter, lookupCall, valuesCall, writeCall, writeAfter};
 ghost use Rattle.capi.specs.Shown.{shownTold};
 
 pub(crate) fn encode_said(kind: usize, a: u32, b: u32) -> Told
@@ -110,6 +115,15 @@ pub(crate) fn digest_said(s: &[u8], layout: &[u64], index: usize) -> Told
     }
 }
 
+pub(crate) fn digest_table_said(s: &[u8], layout: &[u64], index: usize, table: &[u32]) -> Told
+    ensures { λ r. ⌜ shownTold r ≡ digestTableCall (now (s .entry)) (now (layout .entry)) index (now (table .entry)) ⌝ }
+{
+    match record_of(layout) {
+        Record::Refused(why, at) => Told::Refused(why, at),
+        Record::Is(l) => digest_told(digest_with_table(s, l, index, table)),
+    }
+}
+
 // A refused record leaves the table as it was.
 pub(crate) fn slots_said(
     s: &[u8],
@@ -137,6 +151,31 @@ pub(crate) fn lookup_said(s: &[u8], keys: &[u64], n: usize, key: &[u64]) -> Told
     }
     let word = [key[0], key[1], key[2], key[3]];
     lookup_told(lookup(s, keys, n, word))
+}
+
+// The part that a lookup finds, or the empty one.
+fn part_said(s: &[u8], keys: &[u64], n: usize, word: [u64; 4]) -> Told
+    ensures { λ r. ⌜ shownTold r ≡ accepted (partRow (lookupOutcome (now (s .entry)) (now (keys .entry)) n word)) ⌝ }
+{
+    match lookup(s, keys, n, word) {
+        MapLookup::Refused(_, _) => Told::Two(0, 0),
+        MapLookup::Found {
+            values,
+            len,
+            compared: _,
+        } => Told::Two(values.0 as u64, (8 * len) as u64),
+        MapLookup::Absent { compared: _ } => Told::Two(0, 0),
+    }
+}
+
+pub(crate) fn values_said(s: &[u8], keys: &[u64], n: usize, key: &[u64]) -> Told
+    ensures { λ r. ⌜ shownTold r ≡ valuesCall (now (s .entry)) (now (keys .entry)) n (now (key .entry)) ⌝ }
+{
+    if key.len() < 4 {
+        return Told::Refused(Refusal::Index, key.len());
+    }
+    let word = [key[0], key[1], key[2], key[3]];
+    part_said(s, keys, n, word)
 }
 
 // Refused facts leave the output as it was.

@@ -1,0 +1,45 @@
+-- `capi::said::digest_table_said` meets its contract: the refusal of what is given, or the answer over it. Assumes nothing.
+use mathlib.Core.Path.{sym, ap, _∙_}
+use denote.Ref.{now}
+use borrow.Author.Needs.{needs}
+use Rattle.wire.specs.Table.{_>>=_}
+use Rattle.layout.specs.declared.forest.ForestLayout.{ForestLayout}
+use Rattle.resolved.specs.Digests.{digestWithTable}
+use Rattle.capi.specs.Rows.{laid, fourRow}
+use Rattle.capi.specs.Given.{layoutOf}
+use Rattle.capi.specs.Shown.{shownRecord}
+use Rattle.capi.specs.Calls.{digestTableCall}
+use Rattle.capi.proofs.Stores.{stays, goes}
+use Rattle.capi.proofs.said.digest_table_said.Statement.{statement}
+use Rattle.capi.proofs.said.digest_table_said.Tie as tie
+
+returns : tie.Need-returns
+unfolding digestTableCall
+returns c =
+    let y = c .before in
+    let r = y .before .before in
+    let a = r .before .before .before .before .args in
+    stays (λ (l : ForestLayout). laid fourRow (digestWithTable (now (a .s)) l (a .index) (now (a .table)))) (layoutOf (now (a .layout))) _ _ (ap shownRecord (sym (y .why .given .1)) ∙ r .record-of .ensures)
+
+returns-2 : tie.Need-returns-2
+unfolding digestTableCall
+returns-2 c =
+    let q = c .before in
+    let y = q .before .before in
+    let r = y .before .before in
+    let a = r .before .before .before .before .args in
+    c .digest-told .ensures
+    ∙ ap (laid fourRow) (q .digest-with-table .ensures .0)
+    ∙ goes (λ (l : ForestLayout). laid fourRow (digestWithTable (now (a .s)) l (a .index) (now (a .table)))) (layoutOf (now (a .layout))) _ (ap shownRecord (sym (y .l .given .1)) ∙ r .record-of .ensures)
+
+pub digest-table-said-spec : {M : Type 1} → statement M
+digest-table-said-spec =
+    tie.close
+    (tie.spec
+    (λ c κs. search needs)
+    (λ c. search needs)
+    (λ c. search needs)
+    (λ c κs. search needs)
+    (λ c κs. search needs)
+    returns
+    returns-2)
