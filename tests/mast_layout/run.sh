@@ -1,12 +1,17 @@
 #!/bin/sh
 # Runs the small program on whole files and compares what it prints with the paper's pages, byte for byte: what standard output has, and how many
-# lines standard error has. Run by hand from anywhere; `rt` must be on the path. Where the machine is no x86-64, set RUN to an emulator.
+# lines standard error has. `rt` must be on the path. Where the machine is no x86-64, the kit's emulator runs the program, or RUN names one.
 # It ends 'N of M agree', with status 0 where all do.
 set -eu
 root=$(cd "$(dirname "$0")/../.." && pwd)
 cd "$root"
 rt check mast_layout >/dev/null || { echo 'mast_layout is not proved'; exit 1; }
 program=$root/target/bin/mast_layout
+if [ -z "${RUN:-}" ] && [ "$(uname -m)" != x86_64 ]; then
+    kit=$(rt doc)
+    tools=${kit%/docs/*}/on/$(uname -m)/toolchain
+    RUN="$tools/bin/qemu-x86_64 $tools/lib/ld-linux-x86-64.so.2 --library-path $tools/lib"
+fi
 work=$(mktemp -d)
 trap 'rm -rf "$work"' EXIT
 agreed=0

@@ -4,8 +4,8 @@ use mathlib.Core.Path.{_≡_}
 use mathlib.Core.List.{List}
 use mathlib.Core.Logic.{_↔_}
 use Prim.Native.Nat.{ℕ}
-use Rattle.wire.specs.Table.{refused, accepted, noneMet}
-use Rattle.wire.proofs.Tables.{accepts-exactly, FirstMet, refuses-exactly}
+use Rattle.wire.specs.Table.{refused, accepted, noneMet, FirstMet}
+use Rattle.wire.proofs.Tables.{accepts-exactly, refuses-exactly}
 use Rattle.advice.specs.Walk.{Walked, walked, mapRules, walkOutcome}
 
 module _ (places : ℕ) (s : List ℕ) (at : ℕ) where

@@ -23,7 +23,7 @@ use Rattle.wire.proofs.Words.{word-whole, order-above, order-same}
 use Rattle.advice.specs.Sorted.{sorted}
 use Rattle.advice.specs.Keys.{isSame, sameKey, seenKey, keyLess}
 use Rattle.advice.specs.Sort.{count, stall, sameAt, earlier, leastRepeat, Ascending, firstDuplicate}
-use Rattle.advice.specs.Walk.{size, valuesAt, nextEntry, walkRules, walkEnd, keyOffsets, Advice, walkShown, Walked, walked, entryCount, firstEntry, mapRules, walkOutcome, keyTable}
+use Rattle.advice.specs.Walk.{size, valuesAt, nextEntry, walkRules, walkEnd, keyOffsets, Advice, walkShown, shownKeys, Walked, walked, entryCount, firstEntry, mapRules, walkOutcome, keyTable, Risen}
 use Rattle.advice.specs.Lookup.{Halved, met, missing, byOrder, halving, found, absent, foundRules, foundOutcome, lookupOutcome}
 use Rattle.advice.specs.declared.sort.Duplicate.{Duplicate}
 use Rattle.advice.specs.declared.sort.Duplicate.the-variants.{At, Nothing}
@@ -90,11 +90,6 @@ places-sorted less l k h =
 
 -- ---- the halving over a table whose first n keys are whole and rise
 
-pub record Risen (s t : List ℕ) (n : ℕ) : Type 0 where
-  pub room : n ≤ length t
-  pub whole : (i : ℕ) → i < n → isShort s (getD t i 0) 32 ≡ false
-  pub rise : (i j : ℕ) → i < j → j < n → Lt (wordAt s (getD t i 0)) (wordAt s (getD t j 0))
-
 module _ (s t key : List ℕ) (n : ℕ) (r : Risen s t n) where
   -- no compared key is refused
   pub none-short : (k low size c x p : ℕ) → low + size ≤ n → halving s t key k low size c ≡ refused x p → ⊥
@@ -155,9 +150,6 @@ module _ (s t key : List ℕ) (n : ℕ) (r : Risen s t n) where
       (λ z o f. met-there k (low + size / 2 + 1) (size - size / 2 - 1) (c + 1) at m (omega arith) f)
 
 -- ---- the keys of the map's entries
-
-abbrev pub shownKeys : List ℕ → ℕ → ℕ → List (List ℕ)
-shownKeys s at n = map (λ (a : Advice). a .key) (walkShown s at n)
 
 or-false : (a b : Bool) → (a || b) ≡ false → (a ≡ false) × (b ≡ false)
 or-false true b e = (cc, cc)

@@ -1,17 +1,19 @@
 -- The map walk: its rules, in the paper's order, and what an accepted map gives and shows. Every read is total: past the end a byte reads as
 -- 0, and a rule before it has refused.
-use Prim.Native.Nat.{ℕ, zero, suc, _+_, _-_, _*_, _^_}
-use mathlib.Core.Bool.{Bool}
-use mathlib.Core.List.{List, [], _∷_, _++_}
+use mathlib.Core.Path.{_≡_}
+use Prim.Native.Nat.{ℕ, zero, suc, _+_, _-_, _*_, _^_, _≤_, _<_}
+use mathlib.Core.Bool.{Bool, false}
+use mathlib.Core.List.{List, [], _∷_, _++_, map}
 use lib.Dec.{ltb, leb}
-use lib.ListN.{length, drop, replicate}
+use lib.ListN.{length, getD, drop, replicate}
 use lib.Seq.{slice}
 use Rattle.wire.specs.Table.{Rule, rule, Outcome, refused, accepted, firstMet}
 use Rattle.wire.specs.Refusals.{OVERFLOW, ELEMENT, DUPLICATE, ROOM}
-use Rattle.wire.specs.Le.{shortRule, over}
+use Rattle.wire.specs.Le.{isShort, shortRule, over}
 use Rattle.wire.specs.Rows.{numbersOf}
 use Rattle.wire.specs.Counts.{counted, countRule}
-use Rattle.wire.specs.Words.{notElements, fourAt}
+use Rattle.wire.specs.Words.{notElements, fourAt, wordAt, wordOrder}
+use Rattle.wire.specs.declared.word.WordOrder.the-variants.{Below}
 use Rattle.wire.specs.declared.count.Count.{Count}
 use Rattle.advice.specs.Sorted.{sorted}
 use Rattle.advice.specs.Keys.{seenKey, keyLess}
@@ -67,6 +69,10 @@ unfoldable pub walkShown : List ℕ → ℕ → ℕ → List Advice
 walkShown s at zero = []
 walkShown s at (suc n) = record { key = fourAt s at; size = size s at; values = values s at } ∷ walkShown s (nextEntry s at) n
 
+-- the keys among them
+abbrev pub shownKeys : List ℕ → ℕ → ℕ → List (List ℕ)
+shownKeys s at n = map (λ (a : Advice). a .key) (walkShown s at n)
+
 -- ---- the map: a count, and as many entries
 
 -- what an accepted walk gives: the number of entries, and the place after the last
@@ -99,3 +105,9 @@ tableOf s first table (accepted w) = sorted (keyLess s) (keyOffsets s first (w .
 
 unfoldable pub keyTable : List ℕ → ℕ → List ℕ → List ℕ
 keyTable s at table = tableOf s (firstEntry s at) table (walkOutcome (length table) s at)
+
+-- the keys of a table's first n offsets are whole, and each is below the next
+pub record Risen (s t : List ℕ) (n : ℕ) : Type 0 where
+  pub room : n ≤ length t
+  pub whole : (i : ℕ) → i < n → isShort s (getD t i 0) 32 ≡ false
+  pub rise : (i j : ℕ) → i < j → j < n → wordOrder (wordAt s (getD t i 0)) (wordAt s (getD t j 0)) ≡ Below

@@ -2,5 +2,6 @@
 // What each function promises is in specs/.
 mod key;
 pub mod lookup;
+mod quick;
 mod sort;
 pub mod walk;

@@ -1,4 +1,4 @@
--- What the proofs of several functions use, and the tightness of the promises.
+-- What the proofs of several functions use.
 mod Stores
-pub mod Tight
+mod EntryLaws
 pub mod Values

@@ -10,8 +10,6 @@ use lib.Seq.{sets}
 use Rattle.wire.specs.Table.{Outcome, refused, accepted, _>>=_}
 use Rattle.wire.specs.Refusals.{ROOM}
 use Rattle.capi.specs.Rows.{numberIn, rowIn, answerNumber, answered, unless, after}
-use Rattle.capi.specs.Shown.{shownTold}
-use Rattle.capi.specs.declared.told.Told.{Told}
 
 pub set-past : (l : List ℕ) (i x : ℕ) → length l ≤ i → set l i x ≡ l
 set-past [] i x h = refl
@@ -44,12 +42,12 @@ module _ (places : ℕ) (lent before after : List ℕ) where
   unfolding unless
   many-other h = rw (le-ltb (length lent) places h)
 
-module _ (places : ℕ) (lent : List ℕ) (t t′ : Told) (e : t ≡ t′) (h : places ≤ length lent) where
-  pub tells-number : numberIn (shownTold t′) ≡ answerNumber places lent (shownTold t)
-  tells-number = rw e (many-number places lent (shownTold t′) h)
+module _ {T : Type 0} (shown : T → Outcome (List ℕ)) (places : ℕ) (lent : List ℕ) (t t′ : T) (e : t ≡ t′) (h : places ≤ length lent) where
+  pub tells-number : numberIn (shown t′) ≡ answerNumber places lent (shown t)
+  tells-number = rw e (many-number places lent (shown t′) h)
 
-  pub tells-row : sets lent 0 (rowIn (shownTold t′)) ≡ answered places lent (shownTold t)
-  tells-row = rw e (many-row places lent (shownTold t′) h)
+  pub tells-row : sets lent 0 (rowIn (shown t′)) ≡ answered places lent (shown t)
+  tells-row = rw e (many-row places lent (shown t′) h)
 
 pub four-stores : (l : List ℕ) (at a b c d : ℕ) → set (set (set (set l at a) (at + 1) b) (at + 2) c) (at + 3) d ≡ sets l at (a ∷ b ∷ c ∷ d ∷ [])
 four-stores l at a b c d =

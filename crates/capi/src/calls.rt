@@ -1,9 +1,10 @@
 // The exported functions.
+use crate::entries::entry_said;
+use crate::entries::word_told;
 use crate::said::children_said;
 use crate::said::digest_said;
 use crate::said::digest_table_said;
 use crate::said::encode_said;
-use crate::said::entry_said;
 use crate::said::lookup_said;
 use crate::said::order_said;
 use crate::said::root_said;
@@ -15,12 +16,11 @@ use crate::said::write_said;
 use crate::told::ROOM;
 use crate::told::Told;
 use crate::told::count_told;
-use crate::told::decoded_told;
 use crate::told::tell;
+use crate::told::tell_three;
 use crate::told::walk_told;
 use crate::told::written_told;
 use advice::walk::walk_map;
-use info::decode_entry;
 use wire::count::read_count;
 use wire::count::shortest_len;
 use wire::count::write_count;
@@ -39,7 +39,7 @@ pub extern "C" fn vk_read_count(s: &[u8], at: usize, answer: &mut [u64]) -> u64
     ensures { λ r. ⌜ r ≡ answerNumber 3 (now (answer .entry)) (readCount (now (s .entry)) at) ⌝ }
     ensures { λ _. ⌜ now (answer .exit) ≡ answered 3 (now (answer .entry)) (readCount (now (s .entry)) at) ⌝ }
 {
-    tell(count_told(read_count(s, ByteOffset(at))), 3, answer)
+    tell_three(count_told(read_count(s, ByteOffset(at))), answer)
 }
 
 // The length of a number's shortest form.
@@ -71,7 +71,7 @@ pub extern "C" fn vk_decode_entry(word: u64, answer: &mut [u64]) -> u64
     ensures { λ r. ⌜ r ≡ answerNumber 3 (now (answer .entry)) (decodeEntry word) ⌝ }
     ensures { λ _. ⌜ now (answer .exit) ≡ answered 3 (now (answer .entry)) (decodeEntry word) ⌝ }
 {
-    tell(decoded_told(decode_entry(word)), 3, answer)
+    tell_three(word_told(word, 0), answer)
 }
 
 // The word of an entry, which is given as its kind and two numbers.
@@ -114,7 +114,7 @@ pub extern "C" fn vk_entry(s: &[u8], layout: &[u64], index: usize, answer: &mut 
     ensures { λ r. ⌜ r ≡ answerNumber 3 (now (answer .entry)) (entryCall (now (s .entry)) (now (layout .entry)) index) ⌝ }
     ensures { λ _. ⌜ now (answer .exit) ≡ answered 3 (now (answer .entry)) (entryCall (now (s .entry)) (now (layout .entry)) index) ⌝ }
 {
-    tell(entry_said(s, layout, index), 3, answer)
+    tell_three(entry_said(s, layout, index), answer)
 }
 
 // Whether every child is below its parent.

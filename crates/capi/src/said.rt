@@ -14,13 +14,11 @@ use crate::told::encoded_told;
 use crate::told::forest_told;
 use crate::told::lookup_told;
 use crate::told::root_told;
-use crate::told::row_told;
 use crate::told::scan_told;
 use crate::told::slots_told;
 use advice::lookup::MapLookup;
 use advice::lookup::lookup;
 use info::encode_entry;
-use layout::index::read_node_entry_at;
 use layout::index::read_procedure_root_at;
 use layout::scan::scan_layout;
 use resolved::checks::check_children;
@@ -37,7 +35,7 @@ ghost use Rattle.wire.specs.Table.{accepted};
 ghost use Rattle.advice.specs.Lookup.{lookupOutcome};
 ghost use Rattle.writer.specs.Shown.{lent};
 ghost use Rattle.capi.specs.Rows.{partRow};
-ghost use Rattle.capi.specs.Calls.{encodeCall, scanCall, rootCall, entryCall, childrenCall, orderCall, strictCall, digestCall, digestTableCall, slotsCall, slotsAfter, lookupCall, valuesCall, writeCall, writeAfter};
+ghost use Rattle.capi.specs.Calls.{encodeCall, scanCall, rootCall, childrenCall, orderCall, strictCall, digestCall, digestTableCall, slotsCall, slotsAfter, lookupCall, valuesCall, writeCall, writeAfter};
 ghost use Rattle.capi.specs.Shown.{shownTold};
 
 pub(crate) fn encode_said(kind: usize, a: u32, b: u32) -> Told
@@ -67,15 +65,6 @@ pub(crate) fn root_said(s: &[u8], layout: &[u64], index: usize) -> Told
     match record_of(layout) {
         Record::Refused(why, at) => Told::Refused(why, at),
         Record::Is(l) => root_told(read_procedure_root_at(s, l, index)),
-    }
-}
-
-pub(crate) fn entry_said(s: &[u8], layout: &[u64], index: usize) -> Told
-    ensures { λ r. ⌜ shownTold r ≡ entryCall (now (s .entry)) (now (layout .entry)) index ⌝ }
-{
-    match record_of(layout) {
-        Record::Refused(why, at) => Told::Refused(why, at),
-        Record::Is(l) => row_told(read_node_entry_at(s, l, index)),
     }
 }
 

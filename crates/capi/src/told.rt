@@ -1,14 +1,11 @@
 // Answers as rows of numbers, and how a row gets into the lent one.
 use advice::lookup::MapLookup;
 use advice::walk::MapWalk;
-use info::Decoded;
 use info::Encoded;
-use info::MastNodeEntry;
 use layout::facts::Bound;
 use layout::forest::ForestLayout;
 use layout::forest::HashSection;
 use layout::index::RootRead;
-use layout::rows::RowEntry;
 use layout::scan::Scan;
 use resolved::checks::NodeCheck;
 use resolved::digests::DigestAnswer;
@@ -24,15 +21,16 @@ ghost use mathlib.Core.List.{[], _∷_};
 ghost use Prim.Native.Nat.{_≤_};
 ghost use lib.ListN.{length, set};
 ghost use lib.Seq.{sets};
-ghost use Rattle.wire.specs.Table.{accepted};
+ghost use Rattle.wire.specs.Table.{refused, accepted};
+ghost use Rattle.wire.specs.Refusals.{numberOf};
 ghost use Rattle.wire.specs.Shown.{shownCount, shownWritten};
-ghost use Rattle.info.specs.Shown.{shownDecoded, shownEncoded};
-ghost use Rattle.layout.specs.Shown.{shownScan, shownRoot, shownRow};
+ghost use Rattle.info.specs.Shown.{shownEncoded};
+ghost use Rattle.layout.specs.Shown.{shownScan, shownRoot};
 ghost use Rattle.resolved.specs.Shown.{shownCheck, shownDigest, shownSlots};
 ghost use Rattle.advice.specs.Shown.{shownWalk, shownLookup};
 ghost use Rattle.writer.specs.Shown.{shownWrite};
-ghost use Rattle.capi.specs.Rows.{laid, answerNumber, answered, noRow, oneRow, fourRow, countRow, entryRow, hashFlag, hashPlace, layoutRow, boundRow, walkedRow, lookedRow};
-ghost use Rattle.capi.specs.Shown.{shownTold};
+ghost use Rattle.capi.specs.Rows.{laid, answerNumber, answered, noRow, oneRow, fourRow, countRow, hashFlag, hashPlace, layoutRow, boundRow, walkedRow, lookedRow};
+ghost use Rattle.capi.specs.Shown.{shownTold, shownTriple};
 
 // The return of a row with too few places.
 pub(crate) const ROOM: u64 = 20;
@@ -43,9 +41,42 @@ pub(crate) enum Told {
     Nothing,
     One(u64),
     Two(u64, u64),
-    Three(u64, u64, u64),
     Four(u64, u64, u64, u64),
     Layout(ForestLayout),
+}
+
+// The same for an answer of three numbers: a refusal's number with its place first, or 0 and the three. Every field is made at
+// every end, so that all of it stays in registers.
+pub(crate) struct Triple {
+    pub(crate) refused: bool,
+    pub(crate) number: u64,
+    pub(crate) first: u64,
+    pub(crate) second: u64,
+    pub(crate) third: u64,
+}
+
+pub(crate) fn refuse_three(why: Refusal, place: usize) -> Triple
+    ensures { λ r. ⌜ shownTriple r ≡ refused (numberOf why) place ⌝ }
+{
+    Triple {
+        refused: true,
+        number: refusal_number(why) as u64,
+        first: place as u64,
+        second: 0,
+        third: 0,
+    }
+}
+
+pub(crate) fn three(first: u64, second: u64, third: u64) -> Triple
+    ensures { λ r. ⌜ shownTriple r ≡ accepted (first ∷ second ∷ third ∷ []) ⌝ }
+{
+    Triple {
+        refused: false,
+        number: 0,
+        first,
+        second,
+        third,
+    }
 }
 
 // Stores x at place i, where there is one.
@@ -142,12 +173,6 @@ pub(crate) fn tell(told: Told, places: usize, row: &mut [u64]) -> u64
             put(row, 1, b);
             0
         }
-        Told::Three(a, b, c) => {
-            put(row, 0, a);
-            put(row, 1, b);
-            put(row, 2, c);
-            0
-        }
         Told::Four(a, b, c, d) => {
             put_four(row, 0, a, b, c, d);
             0
@@ -159,14 +184,29 @@ pub(crate) fn tell(told: Told, places: usize, row: &mut [u64]) -> u64
     }
 }
 
-pub(crate) fn count_told(read: CountRead) -> Told
-    ensures { λ r. ⌜ shownTold r ≡ laid countRow (shownCount read) ⌝ }
+// The same for an answer of three numbers.
+pub(crate) fn tell_three(triple: Triple, row: &mut [u64]) -> u64
+    ensures { λ r. ⌜ r ≡ answerNumber 3 (now (row .entry)) (shownTriple triple) ⌝ }
+    ensures { λ _. ⌜ now (row .exit) ≡ answered 3 (now (row .entry)) (shownTriple triple) ⌝ }
+{
+    if row.len() < 3 {
+        return ROOM;
+    }
+    put(row, 0, triple.first);
+    if triple.refused {
+        return triple.number;
+    }
+    put(row, 1, triple.second);
+    put(row, 2, triple.third);
+    0
+}
+
+pub(crate) fn count_told(read: CountRead) -> Triple
+    ensures { λ r. ⌜ shownTriple r ≡ laid countRow (shownCount read) ⌝ }
 {
     match read {
-        CountRead::Refused(why, at) => Told::Refused(why, at.0),
-        CountRead::Whole(count, next) => {
-            Told::Three(count.value, count.len as u64, next.at.0 as u64)
-        }
+        CountRead::Refused(why, at) => refuse_three(why, at.0),
+        CountRead::Whole(count, next) => { three(count.value, count.len as u64, next.at.0 as u64) }
     }
 }
 
@@ -176,37 +216,6 @@ pub(crate) fn written_told(written: CountWritten) -> Told
     match written {
         CountWritten::Refused(why, at) => Told::Refused(why, at.0),
         CountWritten::Written(next) => Told::One(next.at.0 as u64),
-    }
-}
-
-pub(crate) fn entry_told(entry: MastNodeEntry) -> Told
-    ensures { λ r. ⌜ shownTold r ≡ accepted (entryRow entry) ⌝ }
-{
-    match entry {
-        MastNodeEntry::Join {
-            left_child_id,
-            right_child_id,
-        } => Told::Three(0, left_child_id as u64, right_child_id as u64),
-        MastNodeEntry::Split {
-            if_branch_id,
-            else_branch_id,
-        } => Told::Three(1, if_branch_id as u64, else_branch_id as u64),
-        MastNodeEntry::Loop { body_id } => Told::Three(2, body_id as u64, 0),
-        MastNodeEntry::Block { ops_offset } => Told::Three(3, ops_offset as u64, 0),
-        MastNodeEntry::Call { callee_id } => Told::Three(4, callee_id as u64, 0),
-        MastNodeEntry::SysCall { callee_id } => Told::Three(5, callee_id as u64, 0),
-        MastNodeEntry::Dyn => Told::Three(6, 0, 0),
-        MastNodeEntry::Dyncall => Told::Three(7, 0, 0),
-        MastNodeEntry::External => Told::Three(8, 0, 0),
-    }
-}
-
-pub(crate) fn decoded_told(decoded: Decoded) -> Told
-    ensures { λ r. ⌜ shownTold r ≡ laid entryRow (shownDecoded decoded) ⌝ }
-{
-    match decoded {
-        Decoded::Refused(why, at) => Told::Refused(why, at.0),
-        Decoded::Entry(entry) => entry_told(entry),
     }
 }
 
@@ -234,15 +243,6 @@ pub(crate) fn root_told(root: RootRead) -> Told
     match root {
         RootRead::Refused(why, i) => Told::Refused(why, i),
         RootRead::Root(id) => Told::One(id as u64),
-    }
-}
-
-pub(crate) fn row_told(read: RowEntry) -> Told
-    ensures { λ r. ⌜ shownTold r ≡ laid entryRow (shownRow read) ⌝ }
-{
-    match read {
-        RowEntry::Refused(why, i) => Told::Refused(why, i),
-        RowEntry::Entry(entry) => entry_told(entry),
     }
 }
 

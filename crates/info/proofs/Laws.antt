@@ -17,22 +17,10 @@ use lib.Pow.{high, low}
 use Rattle.wire.specs.Table.{Outcome, refused, accepted, pick, firstMet, rule}
 use Rattle.wire.specs.Refusals.{PAYLOAD}
 use Rattle.wire.proofs.Tables.{accepted-none}
-use Rattle.info.specs.Entry.{tagOf, payloadOf, kinds, entryOf, badTag, badPayload, decodeRules, decodeOutcome, wordOf, wideId, wideIds, encodeOutcome, canonical}
+use Rattle.info.specs.Entry.{tagOf, payloadOf, kinds, entryOf, badTag, badPayload, decodeRules, decodeOutcome, wordOf, wideId, wideIds, encodeOutcome, canonical, Held}
 use Rattle.info.specs.declared.MastNodeEntry.{MastNodeEntry}
 use Rattle.info.specs.declared.MastNodeEntry.the-variants.{Join, Split, Loop, Block, Call, SysCall, Dyn, Dyncall, External}
 use Rattle.info.proofs.Cases.{single-fits}
-
--- The numbers of an entry are of 32 bits, as the code holds them.
-abbrev pub Held : MastNodeEntry → Type 0
-Held (Join a b) = (a < 2 ^ 32) × (b < 2 ^ 32)
-Held (Split a b) = (a < 2 ^ 32) × (b < 2 ^ 32)
-Held (Loop a) = a < 2 ^ 32
-Held (Block a) = a < 2 ^ 32
-Held (Call a) = a < 2 ^ 32
-Held (SysCall a) = a < 2 ^ 32
-Held Dyn = Unit {0}
-Held Dyncall = Unit {0}
-Held External = Unit {0}
 
 -- what a tag and a payload say
 abbrev kindOf : ℕ → ℕ → MastNodeEntry

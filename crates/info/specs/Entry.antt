@@ -1,5 +1,5 @@
 -- The 8-byte node entry: the top 4 of 64 bits are the tag, the 60 below are the payload.
-use Prim.Native.Nat.{ℕ, _+_, _-_, _*_, _/_, _%_, _^_}
+use Prim.Native.Nat.{ℕ, _+_, _-_, _*_, _/_, _%_, _^_, _<_}
 use mathlib.Core.Bool.{Bool, true, false, _&&_, _||_}
 use mathlib.Core.List.{List, [], _∷_}
 use lib.Dec.{ltb, leb}
@@ -109,3 +109,15 @@ canonical w = tagOf w * 2 ^ 60 + pick (ltb (tagOf w) 6) (payloadOf w) 0
 -- two ids under a tag: what the code's helper answers for
 unfoldable pub pairOutcome : ℕ → ℕ → ℕ → Outcome ℕ
 pairOutcome tag left right = firstMet (rule PAYLOAD 0 (wideId left || wideId right) ∷ []) (tag * 2 ^ 60 + (left * 2 ^ 30 + right))
+
+-- The numbers of an entry are of 32 bits, as the code holds them.
+abbrev pub Held : MastNodeEntry → Type 0
+Held (Join a b) = (a < 2 ^ 32) × (b < 2 ^ 32)
+Held (Split a b) = (a < 2 ^ 32) × (b < 2 ^ 32)
+Held (Loop a) = a < 2 ^ 32
+Held (Block a) = a < 2 ^ 32
+Held (Call a) = a < 2 ^ 32
+Held (SysCall a) = a < 2 ^ 32
+Held Dyn = Unit {0}
+Held Dyncall = Unit {0}
+Held External = Unit {0}

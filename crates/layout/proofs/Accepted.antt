@@ -14,16 +14,16 @@ use lib.ListN.{length}
 use Rattle.wire.specs.Table.{Rule, rule, Outcome, refused, accepted, pick, firstMet, _>>=_, noneMet, At}
 use Rattle.wire.specs.Refusals.{ROOT-ID}
 use Rattle.wire.specs.Le.{leAt, isShort}
-use Rattle.wire.specs.Counts.{counted, countRule, countOutcome}
+use Rattle.wire.specs.Counts.{counted, countRule, countOutcome, Reads}
 use Rattle.wire.specs.declared.count.Count.{Count}
 use Rattle.wire.proofs.Tables.{accepted-none, none-accepted, none-parts}
 use Rattle.wire.proofs.Stages.{both-taken}
-use Rattle.wire.proofs.CountLaws.{Reads}
 use Rattle.info.specs.declared.MastNodeEntry.{MastNodeEntry}
 use Rattle.layout.specs.Facts.{hashBytes}
 use Rattle.layout.specs.Rows.{rowOver, rowOutcome, externalOne, entryPass}
 use Rattle.layout.specs.Scan.{wordsRules, externals, sectionAt, isHashless, internal, externalAt, external, nodes, rootsAt, roots as rootsOf, blocksAt, blocks as blocksOf, entriesAt, words, scanRules, layoutShown}
 use Rattle.layout.specs.Steps.{entryRules}
+use Rattle.layout.specs.Accepted.{EndToEnd, Counted}
 use Rattle.layout.specs.Index.{rootAt, rootOutcome, nodeOutcome}
 use Rattle.layout.specs.declared.facts.FormatFacts.{FormatFacts}
 use Rattle.layout.specs.declared.facts.Bound.{Bound}
@@ -31,37 +31,6 @@ use Rattle.layout.specs.declared.forest.ForestLayout.{ForestLayout}
 use Rattle.layout.proofs.Entries.{atByte, words-pass}
 use Rattle.layout.proofs.Split.{count-1, count-2, count-3, count-4, maximum, roots-there, sections-there, entries-clean}
 use Rattle.layout.proofs.IndexLaws.{node-row, root-high, root-found}
-
--- ---- the statement
-
--- the sections lie end to end: the header of 8 bytes, two counts, the roots' count, the roots, the block length, the block data, the entries,
--- the external digests, the hashes unless there are none, and then the map, which begins inside the file or at its end
-pub record EndToEnd (f : FormatFacts) (s : List ℕ) (l : ForestLayout) : Type 0 where
-  -- the lengths of the four counts
-  pub first : ℕ
-  pub second : ℕ
-  pub third : ℕ
-  pub fourth : ℕ
-  pub internals : Reads s 8 first (l .«internal_node_count» .0)
-  pub externals : Reads s (8 + first) second (l .«external_node_count» .0)
-  pub rootCount : Reads s (8 + first + second) third (l .«roots_count»)
-  pub roots : l .«roots_offset» .0 ≡ 8 + first + second + third
-  pub blockLength : Reads s (l .«roots_offset» .0 + 4 * l .«roots_count») fourth (l .«basic_block_len»)
-  pub blocks : l .«basic_block_offset» .0 ≡ l .«roots_offset» .0 + 4 * l .«roots_count» + fourth
-  pub entries : l .«node_entry_offset» .0 ≡ l .«basic_block_offset» .0 + l .«basic_block_len»
-  pub digests : l .«external_digest_offset» .0 ≡ l .«node_entry_offset» .0 + 8 * l .«node_count»
-  pub hashes : l .«node_hash_offset» ≡ sectionAt (isHashless f s) (l .«external_digest_offset» .0 + 32 * l .«external_node_count» .0)
-  pub map : l .«advice_map_offset» .0 ≡ l .«external_digest_offset» .0 + 32 * l .«external_node_count» .0 + hashBytes (isHashless f s) (l .«internal_node_count» .0)
-  pub inside : l .«advice_map_offset» .0 ≤ length s
-
-pub record Counted (f : FormatFacts) (s : List ℕ) (l : ForestLayout) : Type 0 where
-  pub sum : l .«node_count» ≡ l .«internal_node_count» .0 + l .«external_node_count» .0
-  pub most : l .«node_count» ≤ f .«max_nodes»
-  pub limit : l .«node_count» ≤ 2 ^ 30
-  -- every entry reads, and so many are External
-  pub pass : entryPass (rowOutcome s (l .«node_entry_offset» .0)) (l .«node_count») ≡ accepted (l .«external_node_count» .0)
-
--- ---- the proof
 
 -- a pass that is clean has an entry in each row
 pub each-row : (read : ℕ → Outcome MastNodeEntry) (n x i : ℕ) → entryPass read n ≡ accepted x → i < n → (e : MastNodeEntry) × (read i ≡ accepted e)

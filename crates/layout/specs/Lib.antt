@@ -4,3 +4,4 @@ pub mod Scan
 pub mod Steps
 pub mod Index
 pub mod Shown
+pub mod Accepted

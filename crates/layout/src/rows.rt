@@ -4,7 +4,6 @@
 use info::EntryRead;
 use info::MastNodeEntry;
 use info::read_entry;
-use wire::number::u64_at;
 use wire::refusal::Refusal;
 use wire::units::ByteOffset;
 ghost use mathlib.Core.Path.{_≡_};
@@ -109,24 +108,55 @@ pub fn read_each(s: &[u8], first: ByteOffset, n: usize) -> EntryPass
     read_from(s, first, 0, n, 0)
 }
 
+fn wide(x: u8) -> u64
+    ensures { λ r. ⌜ (r ≡ x) × (r < 256) ⌝ }
+{
+    x as u64
+}
+
+// The word of 8 bytes, with no test of room, which would keep the survey from becoming vector code; and as one flat sum,
+// which becomes one load in the forwarder below, before that is inlined.
+fn word_in(s: &[u8], at: usize) -> u64
+    requires { ⌜ at + 8 ≤ length (now s) ⌝ }
+    ensures { λ r. ⌜ r ≡ leAt (now (s .entry)) at 8 ⌝ }
+{
+    wide(s[at])
+        + wide(s[at + 1]) * 0x100
+        + wide(s[at + 2]) * 0x1_0000
+        + wide(s[at + 3]) * 0x100_0000
+        + wide(s[at + 4]) * 0x1_0000_0000
+        + wide(s[at + 5]) * 0x100_0000_0000
+        + wide(s[at + 6]) * 0x1_0000_0000_0000
+        + wide(s[at + 7]) * 0x100_0000_0000_0000
+}
+
+fn word(s: &[u8], at: usize) -> u64
+    requires { ⌜ at + 8 ≤ length (now s) ⌝ }
+    ensures { λ r. ⌜ r ≡ leAt (now (s .entry)) at 8 ⌝ }
+{
+    word_in(s, at)
+}
+
 // The upper half of a word. Tag, external bit and all of a payload that can be too long lie there.
 fn upper(s: &[u8], at: usize) -> u32
     requires { ⌜ at + 8 ≤ length (now s) ⌝ }
     ensures { λ r. ⌜ r ≡ leAt (now (s .entry)) at 8 / 2 ^ 32 ⌝ }
 {
-    (u64_at(s, ByteOffset(at)) / 0x1_0000_0000) as u32
+    (word(s, at) / 0x1_0000_0000) as u32
 }
 
-// The upper half where the tag is 2 to 5, whose payload has 32 bits; else nothing.
+// The upper half where the tag is 2 to 5, whose payload has 32 bits; else a number whose lower bits say nothing. A clamp is
+// one step less than two tests.
 fn single(half: u32) -> u32
     ensures { λ r. ⌜ (2 * 2 ^ 28 ≤ half → half < 6 * 2 ^ 28 → r ≡ half) ⌝ }
 {
-    if 0x2000_0000 <= half {
-        if half < 0x6000_0000 {
-            return half;
-        }
+    if half < 0x2000_0000 {
+        return 0x2000_0000;
     }
-    0
+    if 0x6000_0000 < half {
+        return 0x6000_0000;
+    }
+    half
 }
 
 fn larger(a: u32, b: u32) -> u32

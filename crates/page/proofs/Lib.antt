@@ -5,4 +5,3 @@ pub mod WordLaws
 pub mod AnswerLaws
 pub mod Answers
 pub mod ReadBack
-pub mod Tight

@@ -10,14 +10,14 @@ use Prim.Native.Nat.{ℕ, _+_, _*_, _^_, _≤_, _<_}
 use denote.Ref.{now}
 use lib.ListN.{length}
 use lib.Seq.{slice}
-use Rattle.wire.specs.Table.{accepted, noneMet}
+use Rattle.wire.specs.Table.{accepted, noneMet, FirstMet}
 use Rattle.wire.specs.Refusals.{numberOf}
 use Rattle.wire.specs.declared.refusal.Refusal.{Refusal}
 use Rattle.wire.specs.declared.units.ByteOffset.{ByteOffset}
 use Rattle.wire.specs.declared.units.Cursor.{Cursor}
-use Rattle.wire.proofs.Tables.{FirstMet, same-answer}
+use Rattle.wire.proofs.Tables.{same-answer}
 use Rattle.advice.specs.Keys.{seenKey}
-use Rattle.advice.specs.Walk.{Walked, walked, firstEntry, mapRules, walkOutcome, keyTable}
+use Rattle.advice.specs.Walk.{shownKeys, Walked, walked, firstEntry, mapRules, walkOutcome, keyTable}
 use Rattle.advice.specs.Lookup.{found, absent, lookupOutcome, valuesPart, bitLength}
 use Rattle.advice.specs.Shown.{shownWalk, shownLookup}
 use Rattle.advice.specs.declared.walk.MapWalk.{MapWalk}
@@ -27,7 +27,7 @@ use Rattle.advice.specs.declared.lookup.MapLookup.the-variants as look
 use Rattle.advice.proofs.Answers.{walkBack, walk-again, lookupBack, lookup-again}
 use Rattle.advice.proofs.Accepts.{walk-accepts, walk-refuses}
 use Rattle.advice.proofs.Halving.{found-inside, lookup-bits}
-use Rattle.advice.proofs.Risen.{shownKeys, absent-exactly}
+use Rattle.advice.proofs.Risen.{absent-exactly}
 use Rattle.advice.proofs.walk.walk_map.Reads as walk-map
 use Rattle.advice.proofs.lookup.lookup.Reads as lookup-reads
 use Rattle.advice.proofs.lookup.values.Reads as values-reads

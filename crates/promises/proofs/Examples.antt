@@ -19,6 +19,10 @@ use Rattle.layout.specs.Facts.{badFormat, overBudget}
 use Rattle.layout.specs.Scan.{wordsRules, externals, scanRules, scanOutcome}
 use Rattle.layout.specs.Rows.{rowRules, rowOutcome, entryPass}
 use Rattle.resolved.specs.Slots.{countOf, slotsOf, tableRules, slotsOutcome, tableAfter}
+use Rattle.advice.specs.Walk.{walkRules, walkEnd, mapRules, walkOutcome}
+use Rattle.page.specs.Text.{decimalIn, decimal, piece, holesPast, filledFrom}
+use Rattle.page.specs.Page.{hashesText, pageText}
+use Rattle.page.specs.Answer.{mapOutcome, answerOutcome, answerText}
 use Rattle.layout.specs.declared.facts.FormatFacts.{FormatFacts}
 use Rattle.layout.specs.declared.facts.Bound.the-variants.{None}
 use Rattle.layout.specs.declared.forest.HashSection.the-variants.{Absent}
@@ -32,6 +36,7 @@ pub data Question : Type 0 where
   encode : MastNodeEntry → Question
   scan : List ℕ → Question
   slots : List ℕ → Question
+  page : List ℕ → Question
 
 pub data Answer : Type 0 where
   counts : Outcome (At Count) → Answer
@@ -75,6 +80,24 @@ hashlessFile =
     ++ (leBytes 32 0
     ++ (0x01 ∷ []))))))
 
+-- P10's page, as the small program prints it: its seven lines, each as its bytes
+abbrev pub page10 : List ℕ
+page10 =
+    -- nodes 3 internal 2 external 1
+    (110 ∷ 111 ∷ 100 ∷ 101 ∷ 115 ∷ 32 ∷ 51 ∷ 32 ∷ 105 ∷ 110 ∷ 116 ∷ 101 ∷ 114 ∷ 110 ∷ 97 ∷ 108 ∷ 32 ∷ 50 ∷ 32 ∷ 101 ∷ 120 ∷ 116 ∷ 101 ∷ 114 ∷ 110 ∷ 97 ∷ 108 ∷ 32 ∷ 49 ∷ 10 ∷ [])
+    -- roots 1 at 11
+    ++ ((114 ∷ 111 ∷ 111 ∷ 116 ∷ 115 ∷ 32 ∷ 49 ∷ 32 ∷ 97 ∷ 116 ∷ 32 ∷ 49 ∷ 49 ∷ 10 ∷ [])
+    -- blocks 1 at 16
+    ++ ((98 ∷ 108 ∷ 111 ∷ 99 ∷ 107 ∷ 115 ∷ 32 ∷ 49 ∷ 32 ∷ 97 ∷ 116 ∷ 32 ∷ 49 ∷ 54 ∷ 10 ∷ [])
+    -- entries at 17
+    ++ ((101 ∷ 110 ∷ 116 ∷ 114 ∷ 105 ∷ 101 ∷ 115 ∷ 32 ∷ 97 ∷ 116 ∷ 32 ∷ 49 ∷ 55 ∷ 10 ∷ [])
+    -- external digests at 41
+    ++ ((101 ∷ 120 ∷ 116 ∷ 101 ∷ 114 ∷ 110 ∷ 97 ∷ 108 ∷ 32 ∷ 100 ∷ 105 ∷ 103 ∷ 101 ∷ 115 ∷ 116 ∷ 115 ∷ 32 ∷ 97 ∷ 116 ∷ 32 ∷ 52 ∷ 49 ∷ 10 ∷ [])
+    -- node hashes none
+    ++ ((110 ∷ 111 ∷ 100 ∷ 101 ∷ 32 ∷ 104 ∷ 97 ∷ 115 ∷ 104 ∷ 101 ∷ 115 ∷ 32 ∷ 110 ∷ 111 ∷ 110 ∷ 101 ∷ 10 ∷ [])
+    -- advice at 73 end 74
+    ++ (97 ∷ 100 ∷ 118 ∷ 105 ∷ 99 ∷ 101 ∷ 32 ∷ 97 ∷ 116 ∷ 32 ∷ 55 ∷ 51 ∷ 32 ∷ 101 ∷ 110 ∷ 100 ∷ 32 ∷ 55 ∷ 52 ∷ 10 ∷ []))))))
+
 -- the slots of an accepted file's three nodes
 abbrev pub slotTable : List ℕ → Outcome ForestLayout → List ℕ
 slotTable s (refused n p) = []
@@ -88,6 +111,7 @@ ask (decode w) = entry (decodeOutcome 0 w)
 ask (encode e) = word (encodeOutcome e)
 ask (scan s) = layout (scanOutcome stand-in s true None)
 ask (slots s) = table (slotTable s (scanOutcome stand-in s true None))
+ask (page s) = bytes (answerText stand-in 8 s)
 
 abbrev pub examples : List Example
 examples =
@@ -115,6 +139,7 @@ examples =
     ∷ (decode 0x40000002 ⇒ entry (accepted (Join 1 2)))
     -- P6
     ∷ (decode 0x0FFFFFFFFFFFFFFF ⇒ entry (accepted (Join (2 ^ 30 - 1) (2 ^ 30 - 1))))
+    ∷ (encode (Join (2 ^ 30 - 1) (2 ^ 30 - 1)) ⇒ word (accepted 0x0FFFFFFFFFFFFFFF))
     -- P7
     ∷ (decode 0x2000000100000000 ⇒ entry (refused PAYLOAD 0))
     -- P8
@@ -140,8 +165,9 @@ examples =
       «advice_map_offset» = record { 0 = 73 };
     })))
     ∷ (slots hashlessFile ⇒ table (0 ∷ 0 ∷ 1 ∷ []))
+    ∷ (page hashlessFile ⇒ bytes page10)
     ∷ []
 
 pub answered : map (λ (x : Example). ask (x .question)) examples ≡ map (λ (x : Example). x .answer) examples
-unfolding firstMet countOutcome counted countLength trailingZeros countValue le leBytes countForm shortestLen leastFrom decodeOutcome decodeRules entryOf badTag badPayload encodeOutcome scanOutcome scanRules badFormat ones onesIn overBudget wordsRules externals numbersOf tableAfter slotsOutcome tableRules slotsOf countOf entryPass rowOutcome rowRules _>>=_
+unfolding firstMet countOutcome counted countLength trailingZeros countValue le leBytes countForm shortestLen leastFrom decodeOutcome decodeRules entryOf badTag badPayload encodeOutcome scanOutcome scanRules badFormat ones onesIn overBudget wordsRules externals numbersOf tableAfter slotsOutcome tableRules slotsOf countOf entryPass rowOutcome rowRules _>>=_ walkRules walkEnd mapRules walkOutcome decimalIn decimal piece holesPast filledFrom hashesText pageText mapOutcome answerOutcome answerText
 answered = refl

@@ -19,9 +19,9 @@ use Rattle.layout.specs.declared.forest.HashSection.the-variants.{At}
 use Rattle.layout.specs.declared.scan.Scan.{Scan}
 use Rattle.layout.specs.declared.scan.Scan.the-variants.{Accepted}
 use Rattle.resolved.specs.Nodes.{externalNode}
-use Rattle.resolved.specs.Slots.{slotOf, slotsOutcome, tableAfter}
+use Rattle.resolved.specs.Slots.{slotOf, rowsOf, slotsOutcome, tableAfter}
 use Rattle.resolved.specs.Digests.{sectionOf, digestByCounting, digestWithTable, digestOf}
-use Rattle.resolved.specs.Checks.{childrenOutcome, orderOutcome}
+use Rattle.resolved.specs.Checks.{Reaches, childrenOutcome, Ordered, orderOutcome}
 use Rattle.resolved.specs.Shown.{shownSlots, shownDigest, shownCheck}
 use Rattle.resolved.specs.declared.slots.SlotsBuilt.{SlotsBuilt}
 use Rattle.resolved.specs.declared.slots.SlotsBuilt.the-variants.{Filled}
@@ -32,7 +32,7 @@ use Rattle.resolved.proofs.Answers.{digest-one}
 use Rattle.resolved.proofs.SlotLaws.{slots-distinct}
 use Rattle.resolved.proofs.Sections as sections
 use Rattle.resolved.proofs.Readers.{built-slot, readers-agree}
-use Rattle.resolved.proofs.Ordered.{Reaches, no-node-reaches-itself, Ordered, order-holds}
+use Rattle.resolved.proofs.Ordered.{no-node-reaches-itself, order-holds}
 use Rattle.resolved.proofs.slots.build_slots.Reads as build-slots
 use Rattle.resolved.proofs.digests.digest_by_counting.Reads as counting
 use Rattle.resolved.proofs.digests.digest_with_table.Reads as tabled
@@ -91,13 +91,13 @@ module _ (s : List ℕ) (l : ForestLayout) (bound left : Bound) (t₀ t : List �
 -- ---- of a file that the scan accepts
 
 module _ (s : List ℕ) (f : FormatFacts) (allow : Bool) (bound : Bound) (r : Scan) (promised : Scans s f allow bound r) (l : ForestLayout) (taken : r ≡ Accepted l) (fits : length s < 2 ^ 64) where
-  pub slot-below-count : (i : ℕ) → i < l .«node_count» → slotOf (externalNode s l) i < sections.rowsOf l (externalNode s l i)
+  pub slot-below-count : (i : ℕ) → i < l .«node_count» → slotOf (externalNode s l) i < rowsOf l (externalNode s l i)
   slot-below-count = sections.slot-in-section f s l (sections-end-to-end s f allow bound r promised l taken fits) (nodes-counted s f allow bound r promised l taken fits)
 
   -- a node's digest row lies inside its section, and that inside the file
   pub digest-row-inside : (i : ℕ) → i < l .«node_count» → (section : ByteOffset) → sectionOf l (externalNode s l i) ≡ At section →
-      (rowAt (section .0) 32 (slotOf (externalNode s l) i) + 32 ≤ section .0 + 32 * sections.rowsOf l (externalNode s l i))
-      × (section .0 + 32 * sections.rowsOf l (externalNode s l i) ≤ length s)
+      (rowAt (section .0) 32 (slotOf (externalNode s l) i) + 32 ≤ section .0 + 32 * rowsOf l (externalNode s l i))
+      × (section .0 + 32 * rowsOf l (externalNode s l i) ≤ length s)
   digest-row-inside = sections.row-in-section f s l (sections-end-to-end s f allow bound r promised l taken fits) (nodes-counted s f allow bound r promised l taken fits)
 
 -- slots of one kind are distinct, and rows of one kind are in node order: of any record

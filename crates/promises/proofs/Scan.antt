@@ -9,15 +9,16 @@ use mathlib.Core.Logic.{_⊎_, inl, inr, ⊎-elim, _↔_}
 use Prim.Native.Nat.{ℕ, _^_, _<_}
 use denote.Ref.{now}
 use lib.ListN.{length}
-use Rattle.wire.specs.Table.{refused, accepted, noneMet}
+use Rattle.wire.specs.Table.{refused, accepted, noneMet, FirstMet}
 use Rattle.wire.specs.Refusals.{ROOT-ID, numberOf}
 use Rattle.wire.specs.Le.{leAt}
 use Rattle.wire.specs.declared.refusal.Refusal.{Refusal}
 use Rattle.wire.specs.declared.refusal.Refusal.the-variants.{RootId}
 use Rattle.wire.specs.declared.units.ByteOffset.{ByteOffset}
-use Rattle.wire.proofs.Tables.{FirstMet, accepts-exactly, refuses-exactly, same-answer}
+use Rattle.wire.proofs.Tables.{accepts-exactly, refuses-exactly, same-answer}
 use Rattle.info.specs.declared.MastNodeEntry.{MastNodeEntry}
 use Rattle.layout.specs.Scan.{scanRules, layoutShown, scanOutcome}
+use Rattle.layout.specs.Accepted.{EndToEnd, Counted}
 use Rattle.layout.specs.Index.{rootAt, rootOutcome, nodeOutcome}
 use Rattle.layout.specs.Shown.{shownScan, shownRow, shownRoot}
 use Rattle.layout.specs.declared.facts.FormatFacts.{FormatFacts}
@@ -30,7 +31,7 @@ use Rattle.layout.specs.declared.rows.RowEntry.the-variants as row
 use Rattle.layout.specs.declared.index.RootRead.{RootRead}
 use Rattle.layout.specs.declared.index.RootRead.the-variants as root
 use Rattle.layout.proofs.Answers.{scanBack, scan-again, rowBack, row-again, rootBack, root-again}
-use Rattle.layout.proofs.Accepted.{EndToEnd, end-to-end, Counted, all-counted, node-answers, root-answers}
+use Rattle.layout.proofs.Accepted.{end-to-end, all-counted, node-answers, root-answers}
 use Rattle.layout.proofs.scan.scan_layout.Reads as scan-layout
 use Rattle.layout.proofs.index.read_node_entry_at.Reads as read-node
 use Rattle.layout.proofs.index.read_procedure_root_at.Reads as read-root

@@ -13,10 +13,10 @@ use lib.ListN.{length, getD}
 use Rattle.wire.specs.Table.{accepted, noneMet, pick}
 use Rattle.wire.specs.Rows.{Below}
 use Rattle.wire.proofs.Tables.{accepted-none, none-accepted}
-use Rattle.info.specs.Entry.{tagOf, payloadOf, kinds, entryOf, badTag, badPayload, decodeRules, decodeOutcome, isExternal, wordOf, encodeOutcome, canonical}
+use Rattle.info.specs.Entry.{tagOf, payloadOf, kinds, entryOf, badTag, badPayload, decodeRules, decodeOutcome, isExternal, wordOf, encodeOutcome, canonical, Held}
 use Rattle.info.specs.declared.MastNodeEntry.{MastNodeEntry}
 use Rattle.info.specs.declared.MastNodeEntry.the-variants.{External}
-use Rattle.info.proofs.Laws.{Held, encoded-decodes, decoded-encodes}
+use Rattle.info.proofs.Laws.{encoded-decodes, decoded-encodes}
 use Rattle.layout.specs.Scan.{wordsRules, externals}
 use Rattle.writer.specs.Writer.{written}
 

@@ -21,24 +21,10 @@ use Rattle.info.specs.declared.MastNodeEntry.the-variants.{Join, Split, Loop, B
 use Rattle.layout.specs.Rows.{rowWord}
 use Rattle.layout.specs.declared.forest.ForestLayout.{ForestLayout}
 use Rattle.resolved.specs.Nodes.{nodeEntry, nodePass}
-use Rattle.resolved.specs.Checks.{children, childRules, judgeChildren, childrenOutcome, classOf, judgeOrder, orderOutcome, judgeStrict, strictOutcome}
+use Rattle.resolved.specs.Checks.{In, Child, Reaches, once, further, Class, Ordered, children, childRules, judgeChildren, childrenOutcome, classOf, judgeOrder, orderOutcome, judgeStrict, strictOutcome}
 use Rattle.resolved.proofs.Pass.{pass-each}
 
 -- ---- children
-
--- one of a list
-abbrev pub In : ℕ → List ℕ → Type 0
-In x [] = ⊥
-In x (y ∷ ys) = (x ≡ y) ⊎ In x ys
-
--- node j is a child of node i
-abbrev pub Child : List ℕ → ForestLayout → ℕ → ℕ → Type 0
-Child s l i j = (e : MastNodeEntry) × ((nodeEntry s l i ≡ accepted e) × In j (children e))
-
--- node j is a child of node i, or a child of one that node i reaches
-pub data Reaches (s : List ℕ) (l : ForestLayout) : ℕ → ℕ → Type 0 where
-  once : {i j : ℕ} → Child s l i j → Reaches s l i j
-  further : {i j k : ℕ} → Child s l i j → Reaches s l j k → Reaches s l i k
 
 child-rule : (nodes parent : ℕ) (ids : List ℕ) → noneMet (childRules nodes parent ids) → (x : ℕ) → In x ids → (x < nodes) × (x < parent)
 unfolding childRules
@@ -68,19 +54,6 @@ module _ (s : List ℕ) (l : ForestLayout) (holds : childrenOutcome s l ≡ acce
   no-node-reaches-itself i h r = let d : i < i = reaches-below i i h r in omega arith
 
 -- ---- order
-
--- node i has an entry of a class
-abbrev pub Class : List ℕ → ForestLayout → ℕ → ℕ → Type 0
-Class s l i class = (e : MastNodeEntry) × ((nodeEntry s l i ≡ accepted e) × (classOf e ≡ class))
-
--- the first n nodes: some externals, then some blocks, then others only
-pub record Ordered (s : List ℕ) (l : ForestLayout) (n : ℕ) : Type 0 where
-  pub externals : ℕ
-  pub blocks : ℕ
-  pub within : externals + blocks ≤ n
-  pub first : (i : ℕ) → i < externals → Class s l i 0
-  pub then : (i : ℕ) → externals ≤ i → i < externals + blocks → Class s l i 1
-  pub others : (i : ℕ) → externals + blocks ≤ i → i < n → Class s l i 2
 
 class-cases : (e : MastNodeEntry) → (classOf e ≡ 0) ⊎ ((classOf e ≡ 1) ⊎ (classOf e ≡ 2))
 class-cases (Join left right) = inr (inr refl)

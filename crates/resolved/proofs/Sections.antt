@@ -1,4 +1,4 @@
--- The slots of a record that fits its file, as the record of an accepted scan does (`EndToEnd` and `Counted` of layout's Accepted).
+-- The slots of a record that fits its file, as the record of an accepted scan does (`EndToEnd` and `Counted` of layout's specs).
 --     slot-in-section     each node's slot, the number of earlier nodes of its kind, is below its section's count
 --     row-in-section      so every external digest row, and with hashes every internal one, lies inside its section, and that inside the file
 --     rows-in-order       rows of one kind are in node order
@@ -17,9 +17,9 @@ use Rattle.layout.specs.Scan.{sectionAt, isHashless}
 use Rattle.layout.specs.declared.facts.FormatFacts.{FormatFacts}
 use Rattle.layout.specs.declared.forest.ForestLayout.{ForestLayout}
 use Rattle.layout.specs.declared.forest.HashSection.the-variants.{At}
-use Rattle.layout.proofs.Accepted.{EndToEnd, Counted}
+use Rattle.layout.specs.Accepted.{EndToEnd, Counted}
 use Rattle.resolved.specs.Nodes.{externalNode}
-use Rattle.resolved.specs.Slots.{countOf, slotOf}
+use Rattle.resolved.specs.Slots.{countOf, slotOf, rowsOf}
 use Rattle.resolved.specs.Digests.{sectionOf}
 use Rattle.resolved.proofs.SlotLaws.{count-both, counted-kinds, slot-below, slots-rise}
 
@@ -30,11 +30,6 @@ hash-section false at rows file section e h =
     let same : record { 0 = at } ≡ section = cc in
     let place : at ≡ section .0 = ap (λ (x : ByteOffset). x .0) same in
     omega arith
-
--- how many rows the section of a kind has
-abbrev pub rowsOf : ForestLayout → Bool → ℕ
-rowsOf l true = l .«external_node_count» .0
-rowsOf l false = l .«internal_node_count» .0
 
 module _ (f : FormatFacts) (s : List ℕ) (l : ForestLayout) (sections : EndToEnd f s l) (counted : Counted f s l) where
   abbrev kinds : ℕ → Bool

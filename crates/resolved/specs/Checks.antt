@@ -1,5 +1,7 @@
 -- The checks of all nodes: children, order, strict entries. Each reads the nodes from 0 on, and an entry refusal stops it there.
-use Prim.Native.Nat.{ℕ}
+use mathlib.Core.Path.{_≡_}
+use mathlib.Core.Logic.{_⊎_}
+use Prim.Native.Nat.{ℕ, _+_, _≤_, _<_}
 use mathlib.Core.Bool.{not}
 use mathlib.Core.List.{List, [], _∷_}
 use lib.Dec.{ltb, leb, eqb}
@@ -40,6 +42,20 @@ judgeChildren nodes i before e = checked (childRules nodes i (children e))
 unfoldable pub childrenOutcome : List ℕ → ForestLayout → Outcome (Unit {0})
 childrenOutcome s l = nodePass (nodeEntry s l) (judgeChildren (l .«node_count»)) tt (l .«node_count»)
 
+-- one of a list
+abbrev pub In : ℕ → List ℕ → Type 0
+In x [] = ⊥
+In x (y ∷ ys) = (x ≡ y) ⊎ In x ys
+
+-- node j is a child of node i
+abbrev pub Child : List ℕ → ForestLayout → ℕ → ℕ → Type 0
+Child s l i j = (e : MastNodeEntry) × ((nodeEntry s l i ≡ accepted e) × In j (children e))
+
+-- node j is a child of node i, or a child of one that node i reaches
+pub data Reaches (s : List ℕ) (l : ForestLayout) : ℕ → ℕ → Type 0 where
+  once : {i j : ℕ} → Child s l i j → Reaches s l i j
+  further : {i j k : ℕ} → Child s l i j → Reaches s l j k → Reaches s l i k
+
 -- ---- order
 
 -- the classes in their order: External, Block, all others
@@ -60,6 +76,19 @@ judgeOrder i before e = firstMet (rule ORDER i (ltb (classOf e) before) ∷ []) 
 
 unfoldable pub orderOutcome : List ℕ → ForestLayout → Outcome (Unit {0})
 orderOutcome s l = nodePass (nodeEntry s l) judgeOrder 0 (l .«node_count») >>= (λ _. accepted tt)
+
+-- node i has an entry of a class
+abbrev pub Class : List ℕ → ForestLayout → ℕ → ℕ → Type 0
+Class s l i class = (e : MastNodeEntry) × ((nodeEntry s l i ≡ accepted e) × (classOf e ≡ class))
+
+-- the first n nodes: some externals, then some blocks, then others only
+pub record Ordered (s : List ℕ) (l : ForestLayout) (n : ℕ) : Type 0 where
+  pub externals : ℕ
+  pub blocks : ℕ
+  pub within : externals + blocks ≤ n
+  pub first : (i : ℕ) → i < externals → Class s l i 0
+  pub then : (i : ℕ) → externals ≤ i → i < externals + blocks → Class s l i 1
+  pub others : (i : ℕ) → externals + blocks ≤ i → i < n → Class s l i 2
 
 -- ---- strict entries
 

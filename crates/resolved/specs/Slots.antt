@@ -1,6 +1,6 @@
 -- The slot table: each node's number among the earlier nodes of its kind, external or not.
 use Prim.Native.Nat.{ℕ, zero, suc, _+_, _-_, _*_, _^_}
-use mathlib.Core.Bool.{Bool, false, Bool·beq}
+use mathlib.Core.Bool.{Bool, true, false, Bool·beq}
 use mathlib.Core.List.{List, [], _∷_, _++_}
 use lib.Dec.{ltb}
 use lib.ListN.{length, drop}
@@ -27,6 +27,11 @@ slotOf kinds i = countOf kinds (kinds i) i
 unfoldable pub slotsOf : (ℕ → Bool) → ℕ → List ℕ
 slotsOf kinds zero = []
 slotsOf kinds (suc n) = slotsOf kinds n ++ (slotOf kinds n ∷ [])
+
+-- how many rows the section of a kind has
+abbrev pub rowsOf : ForestLayout → Bool → ℕ
+rowsOf l true = l .«external_node_count» .0
+rowsOf l false = l .«internal_node_count» .0
 
 -- ---- the bound
 

@@ -1,4 +1,3 @@
 pub mod Contracts
 pub mod Thin
 pub mod Through
-pub mod Tight

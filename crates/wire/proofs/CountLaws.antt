@@ -17,15 +17,11 @@ use lib.ListN.{length, getD, take, drop, length-append}
 use lib.Seq.{slice, sets-eq, take-at, take-length, drop-append-seam, length-take-le}
 use Rattle.wire.specs.Table.{accepted, At}
 use Rattle.wire.specs.Le.{Bytes}
-use Rattle.wire.specs.Counts.{countLength, counted, countRule, countOutcome, shortestLen, Form, countForm, countBytes, withCount}
+use Rattle.wire.specs.Counts.{countLength, counted, countRule, countOutcome, Reads, shortestLen, Form, countForm, countBytes, withCount}
 use Rattle.wire.specs.declared.count.Count.{Count}
 use Rattle.wire.proofs.Tables.{accepted-none}
 use Rattle.wire.proofs.Counts.{count-whole, shortest-form, write-yes}
 use Rattle.wire.proofs.Forms.{FormAt, read-of-form, form-of-read, length-form, shortest-least, longer-forms}
-
--- a count of v in len bytes was read at `at`
-abbrev pub Reads : List ℕ → ℕ → ℕ → ℕ → Type 0
-Reads s at len v = countOutcome s at ≡ accepted (record { value = record { value = v; len = len }; next = at + len })
 
 -- ---- what is read is a form
 

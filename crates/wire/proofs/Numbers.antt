@@ -58,3 +58,28 @@ four-bytes s at h =
       le-next s at 2 1 (omega arith),
       le-next s at 3 0 (omega arith),
     )
+
+pub eight-bytes : (s : List ℕ) (at : ℕ) → at + 8 ≤ length s →
+    leAt s at 8
+    ≡ getD s at 0
+    + getD s (at + 1) 0 * 256
+    + getD s (at + 2) 0 * 65536
+    + getD s (at + 3) 0 * 16777216
+    + getD s (at + 4) 0 * 4294967296
+    + getD s (at + 5) 0 * 1099511627776
+    + getD s (at + 6) 0 * 281474976710656
+    + getD s (at + 7) 0 * 72057594037927936
+unfolding le
+eight-bytes s at h =
+    let none : leAt s (at + 8) 0 ≡ 0 = rw (add-zero, slice-empty (at + 8) s) in
+    omega (
+      arith,
+      rw add-zero at (le-next s at 0 7 (omega arith)),
+      le-next s at 1 6 (omega arith),
+      le-next s at 2 5 (omega arith),
+      le-next s at 3 4 (omega arith),
+      le-next s at 4 3 (omega arith),
+      le-next s at 5 2 (omega arith),
+      le-next s at 6 1 (omega arith),
+      le-next s at 7 0 (omega arith),
+    )

@@ -9,7 +9,7 @@ use mathlib.Core.Bool.{Bool, true, false}
 use mathlib.Core.Logic.{_↔_}
 use Prim.Native.Nat.{ℕ}
 use native.Mathlib.Omega.{arith}
-use Rattle.wire.specs.Table.{Rule, Outcome, refused, accepted, pick, firstMet, noneMet}
+use Rattle.wire.specs.Table.{Rule, Outcome, refused, accepted, pick, firstMet, noneMet, FirstMet}
 
 -- ---- no rule is met
 
@@ -43,17 +43,6 @@ module _ {A : Type 0} where
   accepts-exactly rs u w = (accepted-none rs u w, λ h. none-accepted rs u (h .0) ∙ ap accepted (h .1))
 
 -- ---- the first rule that is met
-
--- the refusal n at p is that of a rule that is met, with every earlier rule unmet
-pub record FirstMet (rs : List Rule) (n p : ℕ) : Type 0 where
-  pub before : List Rule
-  pub here : Rule
-  pub after : List Rule
-  pub split : rs ≡ before ++ (here ∷ after)
-  pub unmet : noneMet before
-  pub met : here .met ≡ true
-  pub number : here .number ≡ n
-  pub place : here .place ≡ p
 
 module _ {A : Type 0} where
   step : (r : Rule) (rs : List Rule) (x : Outcome A) (n p : ℕ) → (x ≡ refused n p → FirstMet rs n p) → (m : Bool) → r .met ≡ m → pick m (refused (r .number) (r .place)) x ≡ refused n p → FirstMet (r ∷ rs) n p

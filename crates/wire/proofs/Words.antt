@@ -69,7 +69,7 @@ four-at s at h =
 -- ---- the cases of a word at a place
 
 -- four tests of elements, as the code joins them
-elements-mean : (a b c d : Bool) → (not a || (not b || (not c || (not d || false)))) ≡ not (((a && b) && c) && d)
+pub elements-mean : (a b c d : Bool) → (not a || (not b || (not c || (not d || false)))) ≡ not (((a && b) && c) && d)
 elements-mean true true true true = refl
 elements-mean true true true false = refl
 elements-mean true true false d = refl

@@ -1,4 +1,5 @@
 -- Counts (vint64): read, written, and their forms. The laws are in proofs/Counts.antt and proofs/Forms.antt.
+use mathlib.Core.Path.{_≡_}
 use Prim.Native.Nat.{ℕ, zero, suc, _+_, _-_, _*_, _/_, _^_, _≤_, _<_}
 use mathlib.Core.Bool.{Bool}
 use mathlib.Core.List.{List, [], _∷_}
@@ -6,7 +7,7 @@ use lib.ListN.{length, getD}
 use lib.Seq.{sets}
 use lib.Dec.{leb, ltb}
 use lib.Count.{trailingZeros}
-use Rattle.wire.specs.Table.{Rule, rule, Outcome, pick, firstMet, At}
+use Rattle.wire.specs.Table.{Rule, rule, Outcome, accepted, pick, firstMet, At}
 use Rattle.wire.specs.Refusals.{ROOM}
 use Rattle.wire.specs.Le.{leAt, leBytes, shortRule}
 use Rattle.wire.specs.declared.count.Count.{Count}
@@ -31,6 +32,10 @@ countRule s at = shortRule s at (counted s at .len)
 
 unfoldable pub countOutcome : List ℕ → ℕ → Outcome (At Count)
 countOutcome s at = firstMet (countRule s at ∷ []) (record { value = counted s at; next = at + counted s at .len })
+
+-- a count of v in len bytes was read at `at`
+abbrev pub Reads : List ℕ → ℕ → ℕ → ℕ → Type 0
+Reads s at len v = countOutcome s at ≡ accepted (record { value = record { value = v; len = len }; next = at + len })
 
 -- ---- writing
 

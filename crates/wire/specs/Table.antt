@@ -1,7 +1,7 @@
 -- Rule tables: a list of rules in the format's order, and what it says. Nothing here knows the format.
 use Prim.Native.Nat.{ℕ}
 use mathlib.Core.Path.{_≡_}
-use mathlib.Core.List.{List, [], _∷_}
+use mathlib.Core.List.{List, [], _∷_, _++_}
 use mathlib.Core.Bool.{Bool, true, false}
 
 -- A rule: whether its case is met, and the number and place of its refusal.
@@ -41,6 +41,17 @@ accepted v >>= k = k v
 abbrev pub noneMet : List Rule → Type 0
 noneMet [] = Unit {0}
 noneMet (r ∷ rs) = (r .met ≡ false) × noneMet rs
+
+-- the refusal n at p is that of a rule that is met, with every earlier rule unmet
+pub record FirstMet (rs : List Rule) (n p : ℕ) : Type 0 where
+  pub before : List Rule
+  pub here : Rule
+  pub after : List Rule
+  pub split : rs ≡ before ++ (here ∷ after)
+  pub unmet : noneMet before
+  pub met : here .met ≡ true
+  pub number : here .number ≡ n
+  pub place : here .place ≡ p
 
 -- what is read at a place, and the place after it
 pub record At (A : Type 0) : Type 0 where

@@ -15,7 +15,7 @@ use Rattle.wire.specs.Words.{isElement, notElements, wordOrder}
 use Rattle.wire.specs.declared.word.WordOrder.{WordOrder}
 use Rattle.wire.specs.declared.word.WordOrder.the-variants.{Below, Same, Above}
 use Rattle.wire.proofs.Counts.{lt-or-ge}
-use Rattle.wire.proofs.Words.{order-irreflexive, order-transitive, order-same}
+use Rattle.wire.proofs.Words.{elements-mean, order-irreflexive, order-transitive, order-same}
 use Rattle.advice.specs.Keys.{isSame, sameKey, seenKey}
 use Rattle.writer.specs.Writer.{keyRules}
 use Rattle.writer.specs.Inner.{keyAt, keysBefore, Top}
@@ -41,14 +41,12 @@ four-elements [] e = let z : _≡_ {A = ℕ} 0 4 = e in absurd (omega arith)
 four-elements (a ∷ []) e = absurd (omega arith)
 four-elements (a ∷ (b ∷ [])) e = absurd (omega arith)
 four-elements (a ∷ (b ∷ (c ∷ []))) e = absurd (omega arith)
-four-elements (a ∷ (b ∷ (c ∷ (d ∷ [])))) e = go (isElement a) (isElement b) (isElement c) (isElement d)
+four-elements (a ∷ (b ∷ (c ∷ (d ∷ [])))) e =
+    twice (((isElement a && isElement b) && isElement c) && isElement d) ∙ ap not (sym (elements-mean (isElement a) (isElement b) (isElement c) (isElement d)))
   where
-    go : (a b c d : Bool) → (((a && b) && c) && d) ≡ not (not a || (not b || (not c || (not d || false))))
-    go true true true true = refl
-    go true true true false = refl
-    go true true false d = refl
-    go true false c d = refl
-    go false b c d = refl
+    twice : (b : Bool) → b ≡ not (not b)
+    twice true = refl
+    twice false = refl
 four-elements (a ∷ (b ∷ (c ∷ (d ∷ (x ∷ l))))) e = absurd (omega arith)
 
 -- ---- one of the keys before

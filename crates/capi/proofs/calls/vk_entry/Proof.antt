@@ -12,7 +12,7 @@ returns c =
     let r = t .before .before in
     let a = r .before .before .before .before .args in
     let e = r .entry-said .ensures in
-    (t .tell .ensures .0 ∙ ap (answerNumber 3 (now (a .answer))) e, t .tell .ensures .1 ∙ ap (answered 3 (now (a .answer))) e)
+    (t .tell-three .ensures .0 ∙ ap (answerNumber 3 (now (a .answer))) e, t .tell-three .ensures .1 ∙ ap (answered 3 (now (a .answer))) e)
 
 pub vk-entry-spec : {M : Type 1} → statement M
 vk-entry-spec = tie.close (tie.spec (λ c κs. search needs) (λ c κs. search needs) (λ c. search needs) returns)

@@ -13,7 +13,7 @@ returns c =
     let r = k .before in
     let a = r .before .before .before .args in
     let e = k .count-told .ensures ∙ ap (laid countRow) (r .read-count .ensures) in
-    (t .tell .ensures .0 ∙ ap (answerNumber 3 (now (a .answer))) e, t .tell .ensures .1 ∙ ap (answered 3 (now (a .answer))) e)
+    (t .tell-three .ensures .0 ∙ ap (answerNumber 3 (now (a .answer))) e, t .tell-three .ensures .1 ∙ ap (answered 3 (now (a .answer))) e)
 
 pub vk-read-count-spec : {M : Type 1} → statement M
 vk-read-count-spec = tie.close (tie.spec (λ c κs. search needs) (λ c κs. search needs) (λ c κs. search needs) (λ c. search needs) returns)

@@ -22,8 +22,8 @@ returns-2 c =
     let i = t .before .before in
     let a = i .before .before .args in
     let g = t .told .given in (
-      c .refusal-number .ensures ∙ tells-number (a .places) (now (a .row)) (a .told) _ (g .1) (i .if1 .left),
-      p .put .ensures ∙ tells-row (a .places) (now (a .row)) (a .told) _ (g .1) (i .if1 .left),
+      c .refusal-number .ensures ∙ tells-number shownTold (a .places) (now (a .row)) (a .told) _ (g .1) (i .if1 .left),
+      p .put .ensures ∙ tells-row shownTold (a .places) (now (a .row)) (a .told) _ (g .1) (i .if1 .left),
     )
 
 returns-3 : tie.Need-returns-3
@@ -31,7 +31,7 @@ returns-3 c =
     let i = c .before .before in
     let a = i .before .before .args in
     let g = c .enum-told .given in
-    (tells-number (a .places) (now (a .row)) (a .told) _ (g .1) (i .if1 .left), tells-row (a .places) (now (a .row)) (a .told) _ (g .1) (i .if1 .left))
+    (tells-number shownTold (a .places) (now (a .row)) (a .told) _ (g .1) (i .if1 .left), tells-row shownTold (a .places) (now (a .row)) (a .told) _ (g .1) (i .if1 .left))
 
 returns-4 : tie.Need-returns-4
 returns-4 c =
@@ -41,7 +41,7 @@ returns-4 c =
     let a = i .before .before .args in
     let g = t .told2 .given in
     let row = p1 .put2 .ensures in
-    (tells-number (a .places) (now (a .row)) (a .told) _ (g .1) (i .if1 .left), row ∙ tells-row (a .places) (now (a .row)) (a .told) _ (g .1) (i .if1 .left))
+    (tells-number shownTold (a .places) (now (a .row)) (a .told) _ (g .1) (i .if1 .left), row ∙ tells-row shownTold (a .places) (now (a .row)) (a .told) _ (g .1) (i .if1 .left))
 
 returns-5 : tie.Need-returns-5
 returns-5 c =
@@ -52,19 +52,17 @@ returns-5 c =
     let a = i .before .before .args in
     let g = t .told3 .given in
     let row = p2 .put4 .ensures ∙ ap (λ (l : List ℕ). set l 1 (g .0 .1 .0)) (p1 .put3 .ensures) in
-    (tells-number (a .places) (now (a .row)) (a .told) _ (g .1) (i .if1 .left), row ∙ tells-row (a .places) (now (a .row)) (a .told) _ (g .1) (i .if1 .left))
+    (tells-number shownTold (a .places) (now (a .row)) (a .told) _ (g .1) (i .if1 .left), row ∙ tells-row shownTold (a .places) (now (a .row)) (a .told) _ (g .1) (i .if1 .left))
 
 returns-6 : tie.Need-returns-6
 returns-6 c =
-    let p3 = c .before .before in
-    let p2 = p3 .before .before .before .before in
-    let p1 = p2 .before .before .before .before in
+    let p1 = c .before .before in
     let t = p1 .before .before .before in
     let i = t .before .before in
     let a = i .before .before .args in
     let g = t .told4 .given in
-    let row = p3 .put7 .ensures ∙ ap (λ (l : List ℕ). set l 2 (g .0 .1 .1 .0)) (p2 .put6 .ensures ∙ ap (λ (l : List ℕ). set l 1 (g .0 .1 .0)) (p1 .put5 .ensures)) in
-    (tells-number (a .places) (now (a .row)) (a .told) _ (g .1) (i .if1 .left), row ∙ tells-row (a .places) (now (a .row)) (a .told) _ (g .1) (i .if1 .left))
+    let row = p1 .put-four .ensures in
+    (tells-number shownTold (a .places) (now (a .row)) (a .told) _ (g .1) (i .if1 .left), row ∙ tells-row shownTold (a .places) (now (a .row)) (a .told) _ (g .1) (i .if1 .left))
 
 returns-7 : tie.Need-returns-7
 returns-7 c =
@@ -73,18 +71,8 @@ returns-7 c =
     let i = t .before .before in
     let a = i .before .before .args in
     let g = t .told5 .given in
-    let row = p1 .put-four .ensures in
-    (tells-number (a .places) (now (a .row)) (a .told) _ (g .1) (i .if1 .left), row ∙ tells-row (a .places) (now (a .row)) (a .told) _ (g .1) (i .if1 .left))
-
-returns-8 : tie.Need-returns-8
-returns-8 c =
-    let p1 = c .before .before in
-    let t = p1 .before .before .before in
-    let i = t .before .before in
-    let a = i .before .before .args in
-    let g = t .told6 .given in
     let row = p1 .put-layout .ensures in
-    (tells-number (a .places) (now (a .row)) (a .told) _ (g .1) (i .if1 .left), row ∙ tells-row (a .places) (now (a .row)) (a .told) _ (g .1) (i .if1 .left))
+    (tells-number shownTold (a .places) (now (a .row)) (a .told) _ (g .1) (i .if1 .left), row ∙ tells-row shownTold (a .places) (now (a .row)) (a .told) _ (g .1) (i .if1 .left))
 
 pub tell-spec : {M : Type 1} → statement M
 tell-spec =
@@ -103,10 +91,6 @@ tell-spec =
     (λ c κs. search needs)
     (λ c. search needs)
     (λ c κs. search needs)
-    (λ c κs. search needs)
-    (λ c κs. search needs)
-    (λ c. search needs)
-    (λ c κs. search needs)
     (λ c. search needs)
     (λ c κs. search needs)
     (λ c. search needs)
@@ -119,6 +103,4 @@ tell-spec =
     (λ c. search needs)
     returns-6
     (λ c. search needs)
-    returns-7
-    (λ c. search needs)
-    returns-8)
+    returns-7)

@@ -1,0 +1,165 @@
+// Runs one operation of rt's own x86-64 archive so many times: x86 OPERATION SIZE TIMES. It needs no
+// library and has its own start, so that little but the operation is executed.
+#pragma clang section text = "driver" // apart from the archive's code, so that its instructions are not counted
+
+typedef unsigned char u8;
+typedef unsigned int u32;
+typedef unsigned long u64;
+
+#define MOST 4096
+#define ROW u64 *row, u64 row_len
+
+u64 vk_scan(const u8 *s, u64 len, const u64 *facts, u64 n, _Bool allow, u64 bounded, u64 bound, ROW);
+u64 vk_slots(const u8 *s, u64 len, const u64 *layout, u64 n, u64 bounded, u64 bound, u32 *table, u64 table_len, ROW);
+u64 vk_entry(const u8 *s, u64 len, const u64 *layout, u64 n, u64 index, ROW);
+u64 vk_digest_with_table(const u8 *s, u64 len, const u64 *layout, u64 n, u64 index, const u32 *table, u64 table_len, ROW)
+    __attribute__((weak)); // not in older archives
+u64 vk_walk(const u8 *s, u64 len, u64 at, u64 *keys, u64 keys_len, ROW);
+u64 vk_lookup(const u8 *s, u64 len, const u64 *keys, u64 keys_len, u64 n, const u64 *key, u64 key_len, ROW);
+u64 vk_write(const u64 *facts, u64 n, u8 flags, const u32 *roots, u64 roots_len, const u8 *blocks, u64 blocks_len, const u64 *words,
+             u64 words_len, const u8 *external, u64 external_len, const u8 *hashes, u64 hashes_len, const u64 *keys, u64 keys_len,
+             const u64 *lengths, u64 lengths_len, const u64 *values, u64 values_len, u8 *out, u64 out_len, ROW);
+
+// The archive's only outside name. No accepted input reaches it.
+void *memset(void *to, int x, u64 n) {
+    for (u64 i = 0; i < n; i++) ((volatile u8 *)to)[i] = (u8)x;
+    return to;
+}
+
+static const u64 facts[10] = {'M', 'A', 'S', 'T', 0, 0, 1, 1, 0xfe, 1 << 30};
+static u64 words[MOST], keys[4 * MOST], lengths[MOST], values[8 * MOST], offsets[MOST], layout[12], row[12];
+static u8 digests[32 * MOST], file[512 * MOST];
+static u32 table[MOST];
+static u64 file_len, seed = 88172645463325252;
+
+static u64 number(void) {
+    seed ^= seed << 13;
+    seed ^= seed >> 7;
+    return seed ^= seed << 17;
+}
+
+static void leave(long code) {
+    __asm__ volatile("syscall" : : "a"(231), "D"(code));
+    __builtin_unreachable();
+}
+
+// Any refusal ends the run with its number.
+static void must(u64 refusal) {
+    if (refusal) leave((long)refusal);
+}
+
+// The kinds of the benchmark: a tenth External, half of them Block, of the rest mostly Join.
+static u64 word(u64 i, u64 n) {
+    u64 part = i * 10 / n, tag, x = number() >> 40;
+    if (part < 1) return 8ul << 60;
+    if (part < 6) return 3ul << 60 | 24 * i;
+    tag = "\6\7\2\4\4\4\5\1\1\0\0\0\0\0\0\0\0\0\0\0"[x % 20];
+    if (tag >= 6) return tag << 60;
+    return tag << 60 | (tag < 2 ? i << 29 : 0) | i / 3;
+}
+
+static u64 externals_of(u64 n) {
+    u64 externals = 0;
+    for (u64 i = 0; i < n; i++) externals += words[i] >> 60 == 8;
+    return externals;
+}
+
+// Writes the file of n nodes and a map of m entries.
+static void write_file(u64 n, u64 m) {
+    u64 externals = externals_of(n), total = 0;
+    for (u64 i = 0; i < m; i++) total += lengths[i];
+    must(vk_write(facts, 10, 0, table, 1, file, 0, words, n, digests, 32 * externals, digests, 32 * (n - externals), keys, 4 * m, lengths,
+                  m, values, total, file, sizeof file, row, 12));
+    file_len = row[0];
+}
+
+// Keys by their first element: rising (way 1), falling (way 2) or, by an odd factor, in disorder (way 3).
+static void make(u64 n, u64 m, int way) {
+    for (u64 i = 0; i < n; i++) words[i] = word(i, n);
+    for (u64 i = 0; i < m; i++) {
+        u64 at = way == 2 ? m - 1 - i : i;
+        keys[4 * i] = at << 40;
+        lengths[i] = number() % 9;
+    }
+    write_file(n, m);
+    must(vk_scan(file, file_len, facts, 10, 1, 0, 0, row, 12));
+    for (int k = 0; k < 12; k++) layout[k] = row[k];
+    if (way != 3) return;
+    // The writer holds keys in disorder against all earlier ones; so they are put into the file here.
+    for (u64 i = 0, at = layout[11] + 1 + (m >= 128) + (m >= 16384); i < m; at += 33 + 8 * lengths[i], i++)
+        *(volatile u64 *)(file + at) = (i * 2654435761 % m) << 40;
+}
+
+static void scan(void) { must(vk_scan(file, file_len, facts, 10, 1, 0, 0, row, 12)); }
+static void slots(u64 n) { must(vk_slots(file, file_len, layout, 12, 0, 0, table, n, row, 12)); }
+static void walk(u64 m) { must(vk_walk(file, file_len, layout[11], offsets, m, row, 12)); }
+
+static void entry(u64 n) {
+    for (u64 i = 0; i < n; i++) must(vk_entry(file, file_len, layout, 12, i, row, 12));
+}
+
+static void digest(u64 n) {
+    for (u64 i = 0; i < n; i++) must(vk_digest_with_table(file, file_len, layout, 12, i, table, n, row, 12));
+}
+
+static void lookup(u64 m) {
+    for (u64 i = 0; i < m; i++) {
+        u64 key[4] = {(i * 2654435761 % m) << 40};
+        must(vk_lookup(file, file_len, offsets, m, m, key, 4, row, 12));
+        if (!row[0]) leave(99);
+    }
+}
+
+// The plain read, one word after the other, among the code that is counted.
+#pragma clang section text = ".text"
+__attribute__((noinline)) static void plain(u64 n) {
+    u64 sum = 0;
+    const u64 *from = (const u64 *)(file + layout[7]);
+    for (u64 i = 0; i < n; i++) sum += from[i];
+    row[0] = sum;
+}
+#pragma clang section text = "driver"
+
+static int is(const char *a, const char *b) {
+    while (*a && *a == *b) a++, b++;
+    return *a == *b;
+}
+
+static u64 parse(const char *s) {
+    u64 n = 0;
+    for (; *s; s++) n = 10 * n + (u64)(*s - '0');
+    return n;
+}
+
+// Makes the input, and runs the operation so many times.
+static void run(const char *name, u64 n, u64 times) {
+    int way = is(name, "walk-falling") ? 2 : is(name, "walk-shuffled") ? 3 : is(name, "walk-rising") || is(name, "lookup") || is(name, "write-map");
+    make(way ? 16 : n, way ? n : 0, way);
+    if (is(name, "digest")) {
+        if (!vk_digest_with_table) leave(98);
+        slots(n);
+    }
+    if (is(name, "lookup")) walk(n);
+    while (times--) {
+        if (is(name, "plain")) plain(n);
+        else if (is(name, "scan")) scan();
+        else if (is(name, "slots")) slots(n);
+        else if (is(name, "entry")) entry(n);
+        else if (is(name, "digest")) digest(n);
+        else if (is(name, "lookup")) lookup(n);
+        else if (is(name, "write")) write_file(n, 0);
+        else if (is(name, "write-map")) write_file(16, n);
+        else walk(n);
+    }
+}
+
+void start(u64 *stack) {
+    char **args = (char **)(stack + 1);
+    if (stack[0] != 4 || parse(args[2]) > MOST) leave(97);
+    run(args[1], parse(args[2]), parse(args[3]));
+    leave(0);
+}
+
+__attribute__((naked, noreturn)) void _start(void) {
+    __asm__("mov %rsp, %rdi\n and $-16, %rsp\n call start\n");
+}

@@ -1,0 +1,332 @@
+//! One call of each entry point, and the answer it is held against.
+use published::answers::{self, Refused, Walked as PublishedMap};
+
+use crate::{input::Input, model, ours, points::Point, run::Run, told::*};
+
+impl Run {
+    // COUNTS: the shim's vint64 is no oracle, so these are held against the model's.
+
+    pub fn read_count(&mut self, bytes: &[u8], at: usize) {
+        let input = Input { bytes, index: Some(at), ..Input::default() };
+        let document = model::read_count(bytes, at);
+        self.beside_model(Point::ReadCount, &input, ours::read_count(bytes, at), document);
+    }
+
+    pub fn shortest_len(&mut self, v: u64) {
+        let input = Input { number: Some(v), ..Input::default() };
+        let (ours, document) = (Ok(ours::shortest_len(v)), Ok(model::shortest_len(v)));
+        self.beside_model(Point::ShortestLen, &input, ours, document);
+    }
+
+    pub fn write_count(&mut self, places: usize, at: usize, v: u64) {
+        let mut out: Vec<u8> = (0..places).map(|i| 0xC0 | i as u8).collect();
+        let document = model::write_count(&out, at, v);
+        let ours = ours::write_count(&mut out, at, v);
+        let input = Input { bytes: &out, index: Some(at), number: Some(v), ..Input::default() };
+        self.beside_model(Point::WriteCount, &input, ours, document);
+    }
+
+    // THE CODEC
+
+    pub fn decode_entry(&mut self, word: u64) {
+        let input = Input { number: Some(word), ..Input::default() };
+        let rust = answers::decode(&word.to_le_bytes());
+        let document = || model::decode_entry(word, 0);
+        self.beside_rust(Point::DecodeEntry, &input, ours::decode_entry(word), rust, document);
+    }
+
+    pub fn encode_entry(&mut self, entry: Entry) {
+        let input = Input { entry: Some(entry), ..Input::default() };
+        let rust = answers::encode(entry).ok_or_else(panics);
+        let document = || model::encode_entry(entry);
+        self.beside_rust(Point::EncodeEntry, &input, ours::encode_entry(entry), rust, document);
+    }
+
+    // THE SCAN
+
+    /// The layout, if the proved code accepts.
+    pub fn scan(&mut self, bytes: &[u8], allow: bool, bound: Option<usize>) -> Option<Layout> {
+        let facts = self.facts;
+        let input = Input { facts: Some(&facts), bytes, allow, bound, ..Input::default() };
+        let ours = ours::scan(bytes, &facts, allow, bound);
+        let layout = ours.ok();
+        let rust = answers::scan(bytes, allow, bound).map(|(_, layout)| layout);
+        let document = || model::scan(bytes, &facts, allow, bound);
+        self.beside_rust(Point::Scan, &input, ours, rust, document);
+        layout
+    }
+
+    // BY INDEX
+
+    pub fn root(&mut self, bytes: &[u8], l: &Layout, index: usize) {
+        let input = Input { bytes, layout: Some(l), index: Some(index), ..Input::default() };
+        let rust = answers::root(bytes, l, index);
+        let document = || model::root(bytes, l, index);
+        self.beside_rust(Point::Root, &input, ours::root(bytes, l, index), rust, document);
+    }
+
+    pub fn entry(&mut self, bytes: &[u8], l: &Layout, index: usize) {
+        let input = Input { bytes, layout: Some(l), index: Some(index), ..Input::default() };
+        let rust = answers::entry(bytes, l, index);
+        let document = || model::entry(bytes, l, index);
+        self.beside_rust(Point::Entry, &input, ours::entry(bytes, l, index), rust, document);
+    }
+
+    pub fn digest(&mut self, bytes: &[u8], l: &Layout, index: usize) {
+        let input = Input { bytes, layout: Some(l), index: Some(index), ..Input::default() };
+        let rust = answers::digest(bytes, l, index);
+        let document = || model::digest(bytes, l, index);
+        self.beside_rust(Point::Digest, &input, ours::digest(bytes, l, index), rust, document);
+    }
+
+    pub fn digest_constructed(&mut self, bytes: &[u8], l: &Layout, index: usize) {
+        let input = Input { bytes, layout: Some(l), index: Some(index), ..Input::default() };
+        let rust = answers::digest_constructed(bytes, l, index);
+        let document = || model::digest(bytes, l, index);
+        let ours = ours::digest(bytes, l, index);
+        self.beside_rust(Point::DigestConstructed, &input, ours, rust, document);
+    }
+
+    pub fn digest_with_table(&mut self, bytes: &[u8], l: &Layout, index: usize, table: &[u32]) {
+        let slots = Some(table);
+        let input = Input { bytes, layout: Some(l), index: Some(index), slots, ..Input::default() };
+        let rust = answers::digest_over(bytes, l, table.to_vec(), index);
+        let document = || model::digest_with_table(bytes, l, index, table);
+        let ours = ours::digest_with_table(bytes, l, index, table);
+        self.beside_rust(Point::DigestWithTable, &input, ours, rust, document);
+    }
+
+    /// The Rust makes its table itself; so it is asked only where ROOM is not the answer.
+    pub fn slots(&mut self, bytes: &[u8], l: &Layout, bound: Option<usize>, places: usize) {
+        let lent = Some(places);
+        let input = Input { bytes, layout: Some(l), bound, places: lent, ..Input::default() };
+        let document = || model::slots(bytes, l, bound, places);
+        let ours = ours::slots(bytes, l, bound, places);
+        if document().is_err_and(|r| r.number == ROOM) {
+            self.beside_model(Point::Slots, &input, ours, document());
+        } else {
+            let rust = answers::slots(bytes, l, bound).map(|(table, left)| Slots { table, left });
+            self.beside_rust(Point::Slots, &input, ours, rust, document);
+        }
+    }
+
+    // CHECKS OVER THE NODES
+
+    pub fn children(&mut self, bytes: &[u8], l: &Layout) {
+        let input = Input { bytes, layout: Some(l), ..Input::default() };
+        let rust = answers::children(bytes, l);
+        let document = || model::children(bytes, l);
+        self.beside_rust(Point::Children, &input, ours::children(bytes, l), rust, document);
+    }
+
+    pub fn children_constructed(&mut self, bytes: &[u8], l: &Layout) {
+        let input = Input { bytes, layout: Some(l), ..Input::default() };
+        let rust = answers::children_constructed(bytes, l);
+        let document = || model::children(bytes, l);
+        let ours = ours::children(bytes, l);
+        self.beside_rust(Point::ChildrenConstructed, &input, ours, rust, document);
+    }
+
+    pub fn order(&mut self, bytes: &[u8], l: &Layout) {
+        let input = Input { bytes, layout: Some(l), ..Input::default() };
+        let rust = answers::order(bytes, l);
+        let document = || model::order(bytes, l);
+        self.beside_rust(Point::Order, &input, ours::order(bytes, l), rust, document);
+    }
+
+    pub fn strict(&mut self, bytes: &[u8], l: &Layout) {
+        let input = Input { bytes, layout: Some(l), ..Input::default() };
+        let document = || model::strict(bytes, l);
+        let ours = ours::strict(bytes, l);
+        self.beside_rust(Point::Strict, &input, ours, published_strict(bytes, l), document);
+    }
+
+    // THE MAP
+
+    /// The key table, if the proved code accepts. With places enough the Rust is asked; ROOM is the
+    /// model's.
+    pub fn walk_map(&mut self, bytes: &[u8], at: usize, places: usize) -> Option<Walked> {
+        let (index, lent) = (Some(at), Some(places));
+        let input = Input { bytes, index, places: lent, ..Input::default() };
+        let ours = ours::walk_map(bytes, at, places);
+        let walked = ours.clone().ok();
+        let document = || model::walk_map(bytes, at, places);
+        if places >= enough_places(bytes, at) {
+            self.beside_rust(Point::Walk, &input, ours, published_walk(bytes, at), document);
+        } else {
+            self.beside_model(Point::Walk, &input, ours, document());
+        }
+        walked
+    }
+
+    /// Over a table that the walk filled from the same bytes.
+    pub fn lookup_walked(&mut self, bytes: &[u8], map: &MapOfRust, keys: &[u64], key: [u64; 4]) {
+        let (keys_lent, key_asked) = (Some(keys), Some(key));
+        let input = Input { bytes, keys: keys_lent, key: key_asked, ..Input::default() };
+        let document = || model::lookup(bytes, keys, keys.len(), key);
+        let ours = ours::lookup(bytes, keys, keys.len(), key);
+        let rust = map.looked_up(key, compared_by_halving(bytes, keys, key));
+        self.beside_rust(Point::Lookup, &input, ours, rust, document);
+        self.values_walked(&input, map, keys, key);
+    }
+
+    fn values_walked(&mut self, input: &Input, map: &MapOfRust, keys: &[u64], key: [u64; 4]) {
+        let ours = Ok(ours::values(input.bytes, keys, keys.len(), key));
+        let document = || Ok(model::values(input.bytes, keys, keys.len(), key));
+        self.beside_rust(Point::Values, input, ours, Ok(map.part(key)), document);
+    }
+
+    /// The wrapper's map, which holds file and table together, on the same questions.
+    pub fn held_map(&mut self, bytes: &[u8], at: usize, map: &MapOfRust, asked: &[[u64; 4]]) {
+        let keys: Vec<u64> = map.rows.iter().map(|r| r.key_at as u64).collect();
+        let mut places = vec![0; keys.len() + 1];
+        let held = ours::HeldMap::walk(bytes, at, &mut places);
+        for &key in asked {
+            let input = Input { bytes, index: Some(at), key: Some(key), ..Input::default() };
+            let document = || model::lookup(bytes, &keys, keys.len(), key);
+            let rust = map.looked_up(key, compared_by_halving(bytes, &keys, key));
+            let looked = held.as_ref().map_err(|r| *r).and_then(|h| h.lookup(key));
+            self.beside_rust(Point::HeldMap, &input, looked, rust, document);
+            let part = held.as_ref().map_err(|r| *r).map(|h| h.values(key));
+            let document = || Ok(model::values(bytes, &keys, keys.len(), key));
+            self.beside_rust(Point::HeldValues, &input, part, Ok(map.part(key)), document);
+        }
+    }
+
+    /// Over any table and any n.
+    pub fn lookup_foreign(&mut self, bytes: &[u8], keys: &[u64], n: usize, key: [u64; 4]) {
+        let (keys_lent, key_asked) = (Some(keys), Some(key));
+        let number = Some(n as u64);
+        let input = Input { bytes, keys: keys_lent, key: key_asked, number, ..Input::default() };
+        let document = model::lookup(bytes, keys, n, key);
+        self.beside_model(Point::Lookup, &input, ours::lookup(bytes, keys, n, key), document);
+        let document = Ok(model::values(bytes, keys, n, key));
+        let ours = Ok(ours::values(bytes, keys, n, key));
+        self.beside_model(Point::Values, &input, ours, document);
+    }
+
+    // THE WRITER
+
+    /// Any parts, held against document 01's file or refusal.
+    pub fn write(&mut self, facts: &Facts, parts: &Parts, places: usize) -> Option<Vec<u8>> {
+        let (lent, room) = (Some(parts), Some(places));
+        let input = Input { facts: Some(facts), parts: lent, places: room, ..Input::default() };
+        let ours = ours::write(facts, parts, places);
+        let file = ours.clone().ok();
+        self.beside_model(Point::Write, &input, ours, model::write(facts, parts, places));
+        file
+    }
+
+    /// What the published scan and walk show of a written file are the parts it was written from.
+    pub fn written_shows(&mut self, file: &[u8], parts: &Parts) {
+        let facts = self.facts;
+        let input = Input { facts: Some(&facts), bytes: file, ..Input::default() };
+        let canonical = |&word: &u64| model::encode_entry(model::decode_entry(word, 0)?);
+        let words = parts.words.iter().map(canonical).collect::<Told<_>>().expect("accepted words");
+        let lent = Parts { words, ..parts.clone() };
+        let rust = published_parts(file).and_then(|(shown, end)| match end == file.len() {
+            true => Ok(shown),
+            false => Err(Refused { text: "the map does not end the file".into(), ..panics() }),
+        });
+        self.beside_rust(Point::Write, &input, Ok(lent.clone()), rust, || Ok(lent.clone()));
+    }
+}
+
+fn panics() -> Refused {
+    Refused { number: None, place: None, text: "panics".into(), building_table: false }
+}
+
+/// The strict check of document 01 over the published reads and writes of entries; the loop is ours.
+fn published_strict(bytes: &[u8], l: &Layout) -> Result<(), Refused> {
+    for node in 0..l.node_count {
+        let entry = answers::entry(bytes, l, node)?;
+        let at = l.node_entry_offset + 8 * node;
+        if answers::encode(entry).map(u64::to_le_bytes).as_ref().map(|w| &w[..])
+            != bytes.get(at..at + 8)
+        {
+            let number = Some(NOT_CANONICAL);
+            return Err(Refused { number, place: Some(node), ..panics() });
+        }
+    }
+    Ok(())
+}
+
+/// An entry takes at least 33 bytes, so with so many places none lacks.
+pub fn enough_places(bytes: &[u8], at: usize) -> usize {
+    bytes.len().saturating_sub(at) / 33 + 1
+}
+
+fn published_walk(bytes: &[u8], at: usize) -> Result<Walked, Refused> {
+    let (rows, end) = answers::walk(bytes, at)?;
+    Ok(Walked { keys: rows.iter().map(|r| r.key_at as u64).collect(), end })
+}
+
+/// The published map over some bytes, with the places of its values.
+pub struct MapOfRust<'a> {
+    rows: Vec<answers::Row>,
+    map: PublishedMap<'a>,
+}
+
+impl<'a> MapOfRust<'a> {
+    pub fn walk(bytes: &'a [u8], at: usize) -> Option<Self> {
+        let (rows, _) = answers::walk(bytes, at).ok()?;
+        Some(Self { rows, map: PublishedMap::new(bytes, at)? })
+    }
+
+    pub fn keys(&self) -> impl Iterator<Item = [u64; 4]> {
+        self.rows.iter().map(|r| r.key)
+    }
+
+    /// The values' part of the file, and its place in it where it is not empty.
+    fn part(&self, key: [u64; 4]) -> (usize, Vec<u8>) {
+        match self.looked_up(key, 0) {
+            Ok(Looked { found: Some((at, values)), .. }) if !values.is_empty() => {
+                (at, values.iter().flat_map(|v| v.to_le_bytes()).collect())
+            }
+            _ => (0, Vec::new()),
+        }
+    }
+
+    /// The Rust counts no comparisons; that number is handed in.
+    fn looked_up(&self, key: [u64; 4], compared: usize) -> Result<Looked, Refused> {
+        let found = self.map.get(key)?;
+        let row = self.rows.binary_search_by_key(&key, |r| r.key);
+        let values_at = row.map_or(usize::MAX, |i| self.rows[i].values_at);
+        Ok(Looked { found: found.map(|values| (values_at, values)), compared })
+    }
+}
+
+/// Document 01's number of keys compared, whatever the values are.
+fn compared_by_halving(bytes: &[u8], keys: &[u64], key: [u64; 4]) -> usize {
+    model::lookup(bytes, keys, keys.len(), key).map_or(0, |looked| looked.compared)
+}
+
+/// The parts of a file, by the published scan, entry reads and walk, with the map's entries in file
+/// order; and the map's end.
+pub fn published_parts(file: &[u8]) -> Result<(Parts, usize), Refused> {
+    let (flags, l) = answers::scan(file, true, None)?;
+    let (mut rows, end) = answers::walk(file, l.advice_map_offset)?;
+    rows.sort_by_key(|r| r.key_at);
+    let entries = (0..l.node_count)
+        .map(|i| {
+            answers::entry(file, &l, i).map(|e| answers::encode(e).expect("ids that were read"))
+        })
+        .collect::<Result<Vec<u64>, _>>()?;
+    let hashes_at = l.node_hash_offset.unwrap_or(l.advice_map_offset);
+    let values = |r: &answers::Row| file[r.values_at..r.values_at + 8 * r.len].chunks(8).map(le64);
+    let parts = Parts {
+        flags,
+        roots: file[l.roots_offset..][..4 * l.roots_count]
+            .chunks(4)
+            .map(|b| u32::from_le_bytes(b.try_into().expect("4 bytes")))
+            .collect(),
+        blocks: file[l.basic_block_offset..][..l.basic_block_len].to_vec(),
+        words: entries,
+        external: file[l.external_digest_offset..hashes_at].to_vec(),
+        hashes: file[hashes_at..l.advice_map_offset].to_vec(),
+        keys: rows.iter().flat_map(|r| r.key).collect(),
+        lengths: rows.iter().map(|r| r.len as u64).collect(),
+        values: rows.iter().flat_map(values).collect(),
+    };
+    Ok((parts, end))
+}

@@ -1,0 +1,116 @@
+//! Slips put into the proved code's answers on purpose, to see that the comparison notices: one
+//! answer of one entry point is spoilt, and the run must then fail.
+use crate::{
+    points::Point,
+    told::{Entry, Layout, Looked, Parts, Refusal, SHORT, Slots, Told, Walked, refuse},
+};
+
+/// Which suited answer is spoilt: not the first, which may be a special case.
+const NTH: u64 = 100;
+
+#[derive(Debug, Clone, Copy, PartialEq, Eq)]
+pub enum What {
+    /// An accepted answer's value; where it has none, it becomes a refusal.
+    Value,
+    /// A refusal's number, one more.
+    Number,
+    /// A refusal's place, one more.
+    Place,
+}
+
+impl What {
+    pub const ALL: [What; 3] = [What::Value, What::Number, What::Place];
+
+    pub fn label(self) -> &'static str {
+        match self {
+            What::Value => "value",
+            What::Number => "number",
+            What::Place => "place",
+        }
+    }
+}
+
+#[derive(Debug, Clone, Copy)]
+pub struct Slip {
+    pub point: Point,
+    pub what: What,
+    met: u64,
+}
+
+impl Slip {
+    pub fn new(point: Point, what: What) -> Self {
+        Self { point, what, met: 0 }
+    }
+
+    pub fn done(&self) -> bool {
+        self.met >= NTH
+    }
+
+    /// Spoils the answer if it is the one.
+    pub fn spoil<T: Spoil>(&mut self, point: Point, answer: &mut Told<T>) {
+        let suited = point == self.point && answer.is_ok() == (self.what == What::Value);
+        if !suited {
+            return;
+        }
+        self.met += 1;
+        if self.met == NTH {
+            self.spoil_now(answer);
+        }
+    }
+
+    fn spoil_now<T: Spoil>(&self, answer: &mut Told<T>) {
+        match (self.what, &mut *answer) {
+            (What::Value, Ok(value)) => {
+                if !value.spoil() {
+                    *answer = refuse(SHORT, 0);
+                }
+            }
+            (What::Number, Err(Refusal { number, .. })) => *number += 1,
+            (_, Err(Refusal { place, .. })) => *place = place.wrapping_add(1),
+            _ => {}
+        }
+    }
+}
+
+/// A small change of a value; false where there is nothing to change.
+pub trait Spoil {
+    fn spoil(&mut self) -> bool;
+}
+
+macro_rules! spoil {
+    ($($of:ty: |$value:ident| $change:expr;)*) => {
+        $(impl Spoil for $of {
+            fn spoil(&mut self) -> bool {
+                let $value = self;
+                $change;
+                true
+            }
+        })*
+    };
+}
+
+spoil! {
+    u32: |n| *n ^= 1;
+    u64: |n| *n ^= 1;
+    usize: |n| *n ^= 1;
+    [u64; 4]: |word| word[3] ^= 1;
+    (u64, usize, usize): |count| count.0 ^= 1;
+    (Vec<u8>, usize): |written| written.1 += 1;
+    (usize, Vec<u8>): |part| part.1.push(0);
+    Vec<u8>: |file| file.push(0);
+    Layout: |l| l.external_digest_offset += 1;
+    Entry: |e| *e = if *e == Entry::Dyn { Entry::Dyncall } else { Entry::Dyn };
+    Looked: |l| l.compared += 1;
+    Parts: |p| p.flags ^= 1;
+    Walked: |w| w.end += 1;
+    Slots: |s| match s.table.last_mut() {
+        Some(slot) => *slot += 1,
+        None => s.table.push(0),
+    };
+}
+
+impl Spoil for () {
+    fn spoil(&mut self) -> bool {
+        false
+    }
+}
