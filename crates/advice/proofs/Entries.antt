@@ -20,13 +20,13 @@ use Rattle.wire.specs.declared.count.Count.{Count}
 use Rattle.wire.proofs.Stages.{in-turn, in-the-end}
 use Rattle.wire.proofs.Tables.{accepted-none, none-accepted, none-parts}
 use Rattle.wire.proofs.Words.{word-whole}
-use Rattle.advice.specs.Sorted.{sorted}
-use Rattle.advice.specs.Keys.{sameKey, seenKey, keyOrder, keyLess}
+use Rattle.keys.specs.Sorted.{sorted}
+use Rattle.keys.specs.Keys.{sameKey, seenKey, keyOrder, keyLess}
 use Rattle.advice.specs.Walk.{nextEntry, adviceRules, walkRules, walkEnd, keyOffsets, Walked, mapRules, walkOutcome, keyTable}
-use Rattle.advice.specs.Sort.{sameAt, hasKey, firstRepeat, firstDuplicate, Ascending}
+use Rattle.keys.specs.Sort.{sameAt, hasKey, firstRepeat, firstDuplicate, Ascending}
 use Rattle.advice.specs.Inner.{valuesRules, valuesOutcome, entryRules, entryOutcome, entriesOutcome, entriesTable, unlessRepeat, stopShown, FilledTo}
-use Rattle.advice.specs.declared.sort.Duplicate.{Duplicate}
-use Rattle.advice.specs.declared.sort.Duplicate.the-variants.{At as Again, Nothing}
+use Rattle.keys.specs.declared.sort.Duplicate.{Duplicate}
+use Rattle.keys.specs.declared.sort.Duplicate.the-variants.{At as Again, Nothing}
 use Rattle.advice.specs.declared.walk.Stop.{Stop}
 use Rattle.advice.specs.declared.walk.Filled.{Filled}
 

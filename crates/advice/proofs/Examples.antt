@@ -11,8 +11,8 @@ use Rattle.wire.specs.Le.{le, leBytes, numberAt}
 use Rattle.wire.specs.Rows.{rows, numbersOf}
 use Rattle.wire.specs.Counts.{countLength, countValue, counted}
 use Rattle.wire.specs.Words.{modulus, isElement, notElements, fourAt, wordAt, wordOrder}
-use Rattle.advice.specs.Sorted.{insert, sorted}
-use Rattle.advice.specs.Keys.{sameKey, seenKey, keyOrder, keyLess}
+use Rattle.keys.specs.Sorted.{insert, sorted}
+use Rattle.keys.specs.Keys.{sameKey, seenKey, keyOrder, keyLess}
 use Rattle.advice.specs.Walk.{walkRules, walkEnd, keyOffsets, Walked, mapRules, walkOutcome, keyTable}
 use Rattle.advice.specs.Lookup.{halving, Looked, found, absent, elementRules, foundRules, foundOutcome, lookupOutcome, valuesPart}
 

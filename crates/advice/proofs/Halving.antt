@@ -24,7 +24,7 @@ use Rattle.wire.proofs.Tables.{accepted-none}
 use Rattle.advice.specs.Walk.{size, valuesAt}
 use Rattle.advice.specs.Lookup.{Halved, met, missing, byOrder, halving, Looked, found, absent, elementRules, foundRules, foundOutcome, lookupOutcome, bitLength}
 use Rattle.advice.specs.Inner.{valuesRules, valuesOutcome, elementsOutcome}
-use Rattle.advice.proofs.Keys.{never}
+use Rattle.keys.proofs.Keys.{never}
 
 -- ---- a turn of the halving
 

@@ -1,8 +1,3 @@
-pub mod Sorted
-pub mod Permuted
-pub mod Heap
-pub mod Keys
-pub mod Duplicates
 pub mod Entries
 pub mod Halving
 pub mod Accepts

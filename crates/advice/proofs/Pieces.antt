@@ -11,7 +11,7 @@ use Rattle.wire.specs.Words.{notElements, fourAt}
 use Rattle.wire.specs.declared.count.Count.{Count}
 use Rattle.wire.proofs.Piece.{Piece, then, both, tested, guarded}
 use Rattle.wire.proofs.Leaves.{count, numbers, many}
-use Rattle.advice.specs.Keys.{seenKey}
+use Rattle.keys.specs.Keys.{seenKey}
 use Rattle.advice.specs.Walk.{nextEntry, walkRules, walkEnd, Advice, walkShown, entryCount, firstEntry, mapRules}
 use Rattle.wire.specs.Le.{over}
 

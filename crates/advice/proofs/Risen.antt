@@ -20,16 +20,16 @@ use Rattle.wire.specs.declared.word.WordOrder.{WordOrder}
 use Rattle.wire.specs.declared.word.WordOrder.the-variants.{Below, Same, Above}
 use Rattle.wire.proofs.Tables.{accepted-none}
 use Rattle.wire.proofs.Words.{word-whole, order-above, order-same}
-use Rattle.advice.specs.Sorted.{sorted}
-use Rattle.advice.specs.Keys.{isSame, sameKey, seenKey, keyLess}
-use Rattle.advice.specs.Sort.{count, stall, sameAt, earlier, leastRepeat, Ascending, firstDuplicate}
+use Rattle.keys.specs.Sorted.{sorted}
+use Rattle.keys.specs.Keys.{isSame, sameKey, seenKey, keyLess}
+use Rattle.keys.specs.Sort.{count, stall, sameAt, earlier, leastRepeat, Ascending, firstDuplicate}
 use Rattle.advice.specs.Walk.{size, valuesAt, nextEntry, walkRules, walkEnd, keyOffsets, Advice, walkShown, shownKeys, Walked, walked, entryCount, firstEntry, mapRules, walkOutcome, keyTable, Risen}
 use Rattle.advice.specs.Lookup.{Halved, met, missing, byOrder, halving, found, absent, foundRules, foundOutcome, lookupOutcome}
-use Rattle.advice.specs.declared.sort.Duplicate.{Duplicate}
-use Rattle.advice.specs.declared.sort.Duplicate.the-variants.{At, Nothing}
-use Rattle.advice.proofs.Sorted.{Rising, rising-place, in-cons, least-in, least-all, one-same, count-sorted, length-sorted, rising-sorted}
-use Rattle.advice.proofs.Keys.{Lt, Le, never, false-true, lt-irreflexive, lt-le, le-lt, le-key, same-in, stall-no, stall-yes, key-law}
-use Rattle.advice.proofs.Duplicates.{duplicate-found}
+use Rattle.keys.specs.declared.sort.Duplicate.{Duplicate}
+use Rattle.keys.specs.declared.sort.Duplicate.the-variants.{At, Nothing}
+use Rattle.keys.proofs.Sorted.{Rising, rising-place, in-cons, least-in, least-all, one-same, count-sorted, length-sorted, rising-sorted}
+use Rattle.keys.proofs.Keys.{Lt, Le, never, false-true, lt-irreflexive, lt-le, le-lt, le-key, same-in, stall-no, stall-yes, key-law}
+use Rattle.keys.proofs.Duplicates.{duplicate-found}
 use Rattle.advice.proofs.Entries.{length-offsets, offset-at, offsets-ascend, entry-whole-key, all-whole, enough-room, no-duplicate}
 use Rattle.advice.proofs.Halving.{middle, refused-never, turn-cases, lookup-split, bind-taken}
 

@@ -10,9 +10,9 @@ use Rattle.wire.specs.Counts.{counted, countRule}
 use Rattle.wire.specs.Words.{wordRules}
 use Rattle.advice.specs.Walk.{nextEntry, walkRules, walkEnd, keyOffsets, Walked, tableOf}
 use Rattle.advice.specs.Lookup.{Halved, met, missing, elementRules}
-use Rattle.advice.specs.Sort.{firstDuplicate}
-use Rattle.advice.specs.declared.sort.Duplicate.{Duplicate}
-use Rattle.advice.specs.declared.sort.Duplicate.the-variants as repeat
+use Rattle.keys.specs.Sort.{firstDuplicate}
+use Rattle.keys.specs.declared.sort.Duplicate.{Duplicate}
+use Rattle.keys.specs.declared.sort.Duplicate.the-variants as repeat
 use Rattle.advice.specs.declared.walk.Stop.{Stop}
 use Rattle.advice.specs.declared.walk.Stop.the-variants as stop
 use Rattle.advice.specs.declared.walk.Filled.{Filled}

@@ -15,8 +15,8 @@ use Rattle.wire.specs.Counts.{counted, countRule}
 use Rattle.wire.specs.Words.{notElements, fourAt, wordAt, wordOrder}
 use Rattle.wire.specs.declared.word.WordOrder.the-variants.{Below}
 use Rattle.wire.specs.declared.count.Count.{Count}
-use Rattle.advice.specs.Sorted.{sorted}
-use Rattle.advice.specs.Keys.{seenKey, keyLess}
+use Rattle.keys.specs.Sorted.{sorted}
+use Rattle.keys.specs.Keys.{seenKey, keyLess}
 
 -- ---- one entry: a key of 32 bytes, a length, as many values of 8 bytes
 

@@ -1,6 +1,6 @@
 // The map walk: reads every entry, and leaves the offsets of the keys in the lent table, keys rising.
-use crate::sort::Duplicate;
-use crate::sort::settle;
+use keys::sort::Duplicate;
+use keys::sort::settle;
 use wire::count::CountRead;
 use wire::count::read_count;
 use wire::number::is_short;

@@ -12,7 +12,7 @@ use Rattle.wire.specs.Refusals.{SHORT, TAG, PAYLOAD, INDEX}
 use Rattle.wire.specs.Le.{isShort}
 use Rattle.info.specs.Entry.{tagOf, payloadOf, kinds, entryOf, badTag, badPayload, decodeRules, decodeOutcome}
 use Rattle.info.specs.declared.MastNodeEntry.the-variants.{External}
-use Rattle.layout.specs.Rows.{rowAt, rowOver, rowWord, rowRules, rowOutcome}
+use Rattle.rows.specs.Rows.{rowAt, rowOver, rowWord, rowRules, rowOutcome}
 use Rattle.layout.specs.Index.{nodeOutcome}
 use Rattle.layout.proofs.IndexLaws.{no-node, node-row}
 use Rattle.capi.specs.Rows.{laid, entryRow}

@@ -7,7 +7,7 @@ use Rattle.wire.specs.Counts.{countOutcome, shortestLen, writeOutcome}
 use Rattle.info.specs.Entry.{decodeOutcome, encodeOutcome}
 use Rattle.layout.specs.Scan.{scanOutcome}
 use Rattle.layout.specs.Index.{rootOutcome, nodeOutcome}
-use Rattle.resolved.specs.Checks.{childrenOutcome, orderOutcome, strictOutcome}
+use Rattle.checks.specs.Checks.{childrenOutcome, orderOutcome, strictOutcome}
 use Rattle.resolved.specs.Digests.{digestByCounting, digestWithTable}
 use Rattle.resolved.specs.Slots.{slotsOutcome, tableAfter}
 use Rattle.advice.specs.Walk.{walkOutcome}

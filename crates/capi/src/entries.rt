@@ -3,15 +3,15 @@
 use crate::told::Triple;
 use crate::told::refuse_three;
 use crate::told::three;
-use layout::rows::RowPlace;
-use layout::rows::row_place;
+use rows::RowPlace;
+use rows::row_place;
 use wire::number::is_short;
 use wire::number::u64_at;
 use wire::refusal::Refusal;
 use wire::units::ByteOffset;
 ghost use mathlib.Core.Path.{_≡_};
 ghost use Rattle.info.specs.Entry.{decodeOutcome};
-ghost use Rattle.layout.specs.Rows.{rowOutcome};
+ghost use Rattle.rows.specs.Rows.{rowOutcome};
 ghost use Rattle.capi.specs.Rows.{laid, entryRow};
 ghost use Rattle.capi.specs.Calls.{entryCall};
 ghost use Rattle.capi.specs.Shown.{shownTriple};

@@ -1,13 +1,13 @@
 // Answers as rows of numbers, and how a row gets into the lent one.
 use advice::lookup::MapLookup;
 use advice::walk::MapWalk;
+use checks::NodeCheck;
 use info::Encoded;
 use layout::facts::Bound;
 use layout::forest::ForestLayout;
 use layout::forest::HashSection;
 use layout::index::RootRead;
 use layout::scan::Scan;
-use resolved::checks::NodeCheck;
 use resolved::digests::DigestAnswer;
 use resolved::digests::DigestRead;
 use resolved::slots::SlotsBuilt;
@@ -26,7 +26,8 @@ ghost use Rattle.wire.specs.Refusals.{numberOf};
 ghost use Rattle.wire.specs.Shown.{shownCount, shownWritten};
 ghost use Rattle.info.specs.Shown.{shownEncoded};
 ghost use Rattle.layout.specs.Shown.{shownScan, shownRoot};
-ghost use Rattle.resolved.specs.Shown.{shownCheck, shownDigest, shownSlots};
+ghost use Rattle.checks.specs.Shown.{shownCheck};
+ghost use Rattle.resolved.specs.Shown.{shownDigest, shownSlots};
 ghost use Rattle.advice.specs.Shown.{shownWalk, shownLookup};
 ghost use Rattle.writer.specs.Shown.{shownWrite};
 ghost use Rattle.capi.specs.Rows.{laid, answerNumber, answered, noRow, oneRow, fourRow, countRow, hashFlag, hashPlace, layoutRow, boundRow, walkedRow, lookedRow};

@@ -20,7 +20,7 @@ use Rattle.wire.proofs.Tables.{accepted-none, none-accepted, none-parts}
 use Rattle.wire.proofs.Stages.{both-taken}
 use Rattle.info.specs.declared.MastNodeEntry.{MastNodeEntry}
 use Rattle.layout.specs.Facts.{hashBytes}
-use Rattle.layout.specs.Rows.{rowOver, rowOutcome, externalOne, entryPass}
+use Rattle.rows.specs.Rows.{rowOver, rowOutcome, externalOne, entryPass}
 use Rattle.layout.specs.Scan.{wordsRules, externals, sectionAt, isHashless, internal, externalAt, external, nodes, rootsAt, roots as rootsOf, blocksAt, blocks as blocksOf, entriesAt, words, scanRules, layoutShown}
 use Rattle.layout.specs.Steps.{entryRules}
 use Rattle.layout.specs.Accepted.{EndToEnd, Counted}

@@ -19,10 +19,10 @@ use Rattle.wire.proofs.Stages.{in-turn, in-the-end}
 use Rattle.wire.proofs.Words.{rows-next}
 use Rattle.info.specs.Entry.{entryOf, isExternal, badTag, badPayload, decodeRules, decodeOutcome}
 use Rattle.info.specs.declared.MastNodeEntry.{MastNodeEntry}
-use Rattle.layout.specs.Rows.{rowWord, rowRules, rowOutcome, externalOne, entryPass}
+use Rattle.rows.specs.Rows.{rowWord, rowRules, rowOutcome, externalOne, entryPass}
 use Rattle.layout.specs.Scan.{wordsRules, externals}
 use Rattle.layout.specs.Steps.{wordsAt, entryRules}
-use Rattle.layout.proofs.RowLaws.{inside-row}
+use Rattle.rows.proofs.RowLaws.{inside-row}
 
 -- ---- one word more at the end
 

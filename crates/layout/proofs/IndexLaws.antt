@@ -8,7 +8,7 @@ use borrow.Author.Tests.{le-leb, lt-leb}
 use Rattle.wire.specs.Table.{refused, accepted, firstMet}
 use Rattle.wire.specs.Refusals.{SHORT, OVERFLOW, INDEX, ROOT-ID}
 use Rattle.wire.specs.Le.{leAt, isShort}
-use Rattle.layout.specs.Rows.{rowOver, rowOutcome}
+use Rattle.rows.specs.Rows.{rowOver, rowOutcome}
 use Rattle.layout.specs.Index.{rootAt, rootRules, rootOutcome, nodeRules, nodeOutcome}
 use Rattle.layout.specs.declared.forest.ForestLayout.{ForestLayout}
 

@@ -1,6 +1,3 @@
-pub mod RowLaws
-pub mod Pass
-pub mod Quick
 pub mod Tests
 pub mod Entries
 pub mod Stages

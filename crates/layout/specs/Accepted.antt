@@ -6,7 +6,7 @@ use lib.ListN.{length}
 use Rattle.wire.specs.Table.{accepted}
 use Rattle.wire.specs.Counts.{Reads}
 use Rattle.layout.specs.Facts.{hashBytes}
-use Rattle.layout.specs.Rows.{rowOutcome, entryPass}
+use Rattle.rows.specs.Rows.{rowOutcome, entryPass}
 use Rattle.layout.specs.Scan.{sectionAt, isHashless}
 use Rattle.layout.specs.declared.facts.FormatFacts.{FormatFacts}
 use Rattle.layout.specs.declared.forest.ForestLayout.{ForestLayout}

@@ -7,7 +7,7 @@ use Rattle.wire.specs.Refusals.{SHORT, OVERFLOW, INDEX, ROOT-ID}
 use Rattle.wire.specs.Le.{leAt, isShort}
 use Rattle.info.specs.Entry.{entryOf}
 use Rattle.info.specs.declared.MastNodeEntry.{MastNodeEntry}
-use Rattle.layout.specs.Rows.{rowAt, rowOver, rowWord, rowRules}
+use Rattle.rows.specs.Rows.{rowAt, rowOver, rowWord, rowRules}
 use Rattle.layout.specs.declared.forest.ForestLayout.{ForestLayout}
 
 module _ (s : List ℕ) (l : ForestLayout) (i : ℕ) where

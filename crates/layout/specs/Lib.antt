@@ -1,5 +1,4 @@
 pub mod Facts
-pub mod Rows
 pub mod Scan
 pub mod Steps
 pub mod Index

@@ -2,7 +2,6 @@
 use Prim.Native.Nat.{ℕ}
 use Rattle.wire.specs.Table.{Outcome, refused, accepted}
 use Rattle.wire.specs.Refusals.{numberOf}
-use Rattle.info.specs.declared.MastNodeEntry.{MastNodeEntry}
 use Rattle.layout.specs.declared.forest.ForestLayout.{ForestLayout}
 use Rattle.layout.specs.declared.scan.Scan.{Scan}
 use Rattle.layout.specs.declared.scan.Scan.the-variants as scan
@@ -10,18 +9,6 @@ use Rattle.layout.specs.declared.scan.Check.{Check}
 use Rattle.layout.specs.declared.scan.Check.the-variants as check
 use Rattle.layout.specs.declared.index.RootRead.{RootRead}
 use Rattle.layout.specs.declared.index.RootRead.the-variants as root
-use Rattle.layout.specs.declared.rows.RowEntry.{RowEntry}
-use Rattle.layout.specs.declared.rows.RowEntry.the-variants as row
-use Rattle.layout.specs.declared.rows.EntryPass.{EntryPass}
-use Rattle.layout.specs.declared.rows.EntryPass.the-variants as pass
-
-abbrev pub shownRow : RowEntry → Outcome MastNodeEntry
-shownRow (row.Entry e) = accepted e
-shownRow (row.Refused why i) = refused (numberOf why) i
-
-abbrev pub shownPass : EntryPass → Outcome ℕ
-shownPass (pass.Clean externals) = accepted externals
-shownPass (pass.Refused why i) = refused (numberOf why) i
 
 abbrev pub shownRoot : RootRead → Outcome ℕ
 shownRoot (root.Root id) = accepted id

@@ -1,15 +1,16 @@
 // Roots and entries by index, over any layout record: anyone may make one, so each reader checks again.
 use crate::forest::ForestLayout;
-use crate::rows::RowEntry;
-use crate::rows::RowPlace;
-use crate::rows::row_entry;
-use crate::rows::row_place;
+use rows::RowEntry;
+use rows::RowPlace;
+use rows::row_entry;
+use rows::row_place;
 use wire::number::is_short;
 use wire::number::u32_at;
 use wire::refusal::Refusal;
 ghost use mathlib.Core.Path.{_≡_};
 ghost use Rattle.layout.specs.Index.{rootOutcome, nodeOutcome};
-ghost use Rattle.layout.specs.Shown.{shownRow, shownRoot};
+ghost use Rattle.rows.specs.Shown.{shownRow};
+ghost use Rattle.layout.specs.Shown.{shownRoot};
 
 // A procedure root, as a node's number, or why there is none, with the index asked for.
 pub enum RootRead {

@@ -3,5 +3,4 @@
 pub mod facts;
 pub mod forest;
 pub mod index;
-pub mod rows;
 pub mod scan;

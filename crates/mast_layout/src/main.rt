@@ -4,40 +4,57 @@
 //
 // The five words replace the stand-in format facts: magic in 8 hexadecimal digits, version in 6, the two
 // masks in 2 each, the node maximum in decimal. Wrong words give one line on standard error, and nothing
-// is read or printed. All that is printed is made by proved functions of the crate page.
-use layout::facts::FormatFacts;
+// is read. What is said, and where, is the proved function `program` of the crate page, whose types fix the
+// rooms lent here: this file moves bytes.
 use libc::STDERR_FILENO;
 use libc::STDIN_FILENO;
 use libc::STDOUT_FILENO;
-use page::answer::layout_page;
-use page::text::TextWritten;
-use page::words::FactsRead;
-use page::words::WordsCheck;
-use page::words::read_facts;
-use page::words::stand_in_facts;
+use page::program::Said;
+use page::program::program;
+use page::program::words_wrong;
 ghost use mathlib.Core.Path.{_≡_};
 ghost use lib.ListN.{length};
-ghost use Rattle.io.specs.Counts.{Counts};
 
-// Room for one byte more than a file may have.
-fn room() -> [u8; 65537]
+// The most bytes of a word.
+const WORD: usize = 64;
+
+fn word_room() -> [u8; 390]
+    ensures { λ r. ⌜ 390 ≡ length r ⌝ }
+{
+    [0; 390]
+}
+
+fn file_room() -> [u8; 65537]
     ensures { λ r. ⌜ 65537 ≡ length r ⌝ }
 {
     [0; 65537]
 }
 
-// The key table.
-fn key_places() -> [u64; 2048]
-    ensures { λ r. ⌜ 2048 ≡ length r ⌝ }
-{
-    [0; 2048]
-}
-
-// Room for any page: none is longer, so the last arm below is not reached (`answer-short` of the crate page).
-fn paper() -> [u8; 512]
+fn text_room() -> [u8; 512]
     ensures { λ r. ⌜ 512 ≡ length r ⌝ }
 {
     [0; 512]
+}
+
+// Puts the words of the command into the buffer, each with a zero after it, and answers how many bytes these
+// are. It stops where there is no room for one more word of 64 bytes. A longer one is put as an empty one,
+// which is wrong: of it `os::arg` answers 0.
+fn read_words(buf: &mut [u8]) -> usize {
+    let given = os::arg_count();
+    let mut at: usize = 0;
+    let mut i: usize = 1;
+    while i < given {
+        if buf.len() - at <= WORD {
+            return at;
+        }
+        let end = at + WORD;
+        let n = os::arg(i, &mut buf[at..end]);
+        let zero = at + n;
+        buf[zero] = 0;
+        at = zero + 1;
+        i += 1;
+    }
+    at
 }
 
 // How many bytes were read, or that a read failed.
@@ -46,10 +63,14 @@ struct Input {
     failed: bool,
 }
 
-// Reads standard input to its end, or until the room is full.
-fn read_input(buf: &mut [u8]) -> Input
-    ensures { λ r. ⌜ Counts (r .n) (now (buf .exit)) ⌝ }
-{
+// Reads standard input to its end, or until the room is full; or nothing, where it is not wanted.
+fn read_input(buf: &mut [u8], unwanted: bool) -> Input {
+    if unwanted {
+        return Input {
+            n: 0,
+            failed: false,
+        };
+    }
     let mut n: usize = 0;
     while n < buf.len() {
         let got = libc::read(STDIN_FILENO, &mut buf[n..]);
@@ -65,102 +86,23 @@ fn read_input(buf: &mut [u8]) -> Input
     Input { n, failed: false }
 }
 
-// Reads the file, and prints its page.
-fn run(f: FormatFacts) {
-    let mut file = room();
-    let input = read_input(&mut file);
+fn main() {
+    let mut words = word_room();
+    let len = read_words(&mut words);
+    let mut file = file_room();
+    let input = read_input(&mut file, words_wrong(&words, len));
     if input.failed {
         os::fail(b"mast_layout: standard input");
         return;
     }
-    let n = input.n;
-    let mut keys = key_places();
-    let mut out = paper();
-    match layout_page(&file[..n], f, &mut keys, &mut out) {
-        TextWritten::Written(k) => {
+    let size = input.n;
+    let mut out = text_room();
+    match program(&words, len, &file, size, &mut out) {
+        Said::Output(k) => {
             io::write_all(STDOUT_FILENO, &out[..k]);
         }
-        TextWritten::Refused(_, _) => {
-            io::write_all(STDERR_FILENO, b"mast_layout: the page does not fit\n");
+        Said::Error(k) => {
+            io::write_all(STDERR_FILENO, &out[..k]);
         }
-    }
-}
-
-// The facts that the five words say. A word of more than 64 bytes counts as empty, and so as wrong.
-fn given_facts() -> FactsRead {
-    let mut magic = [0u8; 64];
-    let mut version = [0u8; 64];
-    let mut hashless = [0u8; 64];
-    let mut reserved = [0u8; 64];
-    let mut most = [0u8; 64];
-    let a = os::arg(1, &mut magic);
-    let b = os::arg(2, &mut version);
-    let c = os::arg(3, &mut hashless);
-    let d = os::arg(4, &mut reserved);
-    let e = os::arg(5, &mut most);
-    read_facts(
-        &magic[..a],
-        &version[..b],
-        &hashless[..c],
-        &reserved[..d],
-        &most[..e],
-    )
-}
-
-// Says which word is wrong.
-fn complain(k: usize) {
-    match k {
-        1 => {
-            io::write_all(
-                STDERR_FILENO,
-                b"mast_layout: the magic is not 8 hexadecimal digits\n",
-            );
-        }
-        2 => {
-            io::write_all(
-                STDERR_FILENO,
-                b"mast_layout: the version is not 6 hexadecimal digits\n",
-            );
-        }
-        3 => {
-            io::write_all(
-                STDERR_FILENO,
-                b"mast_layout: the hashless mask is not 2 hexadecimal digits\n",
-            );
-        }
-        4 => {
-            io::write_all(
-                STDERR_FILENO,
-                b"mast_layout: the reserved mask is not 2 hexadecimal digits\n",
-            );
-        }
-        _ => {
-            io::write_all(
-                STDERR_FILENO,
-                b"mast_layout: the node maximum is not a decimal number below 2^64\n",
-            );
-        }
-    }
-}
-
-fn main() {
-    let given = os::arg_count();
-    if given < 2 {
-        run(stand_in_facts());
-        return;
-    }
-    if given != 6 {
-        io::write_all(
-            STDERR_FILENO,
-            b"mast_layout: give no words, or five: MAGIC VERSION HASHLESS RESERVED MAXIMUM\n",
-        );
-        return;
-    }
-    let read = given_facts();
-    let f = read.facts;
-    let answer = read.answer;
-    match answer {
-        WordsCheck::Taken => run(f),
-        WordsCheck::Wrong(k) => complain(k),
     }
 }

@@ -5,3 +5,4 @@ pub mod WordLaws
 pub mod AnswerLaws
 pub mod Answers
 pub mod ReadBack
+pub mod ProgramLaws

@@ -18,7 +18,7 @@ use Rattle.page.proofs.Decimals.{decimal-short}
 use Rattle.page.specs.Page.{nodesLine, rootsLine, blocksLine, entriesLine, digestsLine, hashesLine, noHashesLine, adviceLine, refusalLine, hashesText, pageText, refusalText}
 
 -- how many holes a text has
-abbrev holes : List ℕ → ℕ
+abbrev pub holes : List ℕ → ℕ
 holes [] = 0
 holes (b ∷ text) = pick (eqb b hole) 1 0 + holes text
 

@@ -3,3 +3,4 @@ pub mod Page
 pub mod Words
 pub mod Answer
 pub mod Shown
+pub mod Program

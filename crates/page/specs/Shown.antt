@@ -9,3 +9,8 @@ use Rattle.page.specs.declared.text.TextWritten.the-variants as text
 abbrev pub shownText : TextWritten → Outcome ℕ
 shownText (text.Written n) = accepted n
 shownText (text.Refused why n) = refused (numberOf why) n
+
+-- how many bytes the text has, either way
+abbrev pub textLen : Outcome ℕ → ℕ
+textLen (accepted n) = n
+textLen (refused why n) = n

@@ -5,7 +5,7 @@ ghost use Prim.Native.Nat.{_+_, _≤_};
 ghost use lib.ListN.{length, getD};
 ghost use lib.Seq.{sets};
 ghost use Rattle.page.specs.Text.{decimal, piece, holesPast, filled, textOutcome, withText};
-ghost use Rattle.page.specs.Shown.{shownText};
+ghost use Rattle.page.specs.Shown.{shownText, textLen};
 
 // Stands in a text where a number goes: the byte `#`.
 const HOLE: u8 = 35;
@@ -133,4 +133,14 @@ pub(crate) fn write_filled(text: &[u8], numbers: &[usize], out: &mut [u8]) -> Te
     }
     fill_in(text, numbers, out);
     TextWritten::Written(len)
+}
+
+// How long the text is, whether it was written or not.
+pub(crate) fn text_len(t: TextWritten) -> usize
+    ensures { λ r. ⌜ r ≡ textLen (shownText t) ⌝ }
+{
+    match t {
+        TextWritten::Written(n) => n,
+        TextWritten::Refused(_, n) => n,
+    }
 }

@@ -139,7 +139,7 @@ pub fn stand_in_facts() -> FormatFacts
 }
 
 // Word k is wrong.
-fn wrong_word(k: usize) -> FactsRead
+pub(crate) fn wrong_word(k: usize) -> FactsRead
     ensures { λ r. ⌜ (r .answer ≡ WordsCheck.Wrong k) × (r .facts ≡ noFacts) ⌝ }
 {
     FactsRead {

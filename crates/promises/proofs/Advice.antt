@@ -16,7 +16,7 @@ use Rattle.wire.specs.declared.refusal.Refusal.{Refusal}
 use Rattle.wire.specs.declared.units.ByteOffset.{ByteOffset}
 use Rattle.wire.specs.declared.units.Cursor.{Cursor}
 use Rattle.wire.proofs.Tables.{same-answer}
-use Rattle.advice.specs.Keys.{seenKey}
+use Rattle.keys.specs.Keys.{seenKey}
 use Rattle.advice.specs.Walk.{shownKeys, Walked, walked, firstEntry, mapRules, walkOutcome, keyTable}
 use Rattle.advice.specs.Lookup.{found, absent, lookupOutcome, valuesPart, bitLength}
 use Rattle.advice.specs.Shown.{shownWalk, shownLookup}

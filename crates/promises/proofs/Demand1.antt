@@ -69,11 +69,11 @@ use Rattle.info.proofs.encode_entry.Reads as encode-entry
 use Rattle.info.proofs.read_entry.Reads as read-entry
 use Rattle.info.proofs.canonical_word.Reads as canonical-word
 use Rattle.layout.proofs.facts.bad_format.Reads as bad-format
-use Rattle.layout.proofs.rows.row_place.Reads as row-place
-use Rattle.layout.proofs.rows.row_entry.Reads as row-entry
-use Rattle.layout.proofs.rows.external_one.Reads as external-one
-use Rattle.layout.proofs.rows.read_each.Reads as read-each
-use Rattle.layout.proofs.rows.read_entries.Reads as read-entries
+use Rattle.rows.proofs.row_place.Reads as row-place
+use Rattle.rows.proofs.row_entry.Reads as row-entry
+use Rattle.rows.proofs.external_one.Reads as external-one
+use Rattle.rows.proofs.read_each.Reads as read-each
+use Rattle.rows.proofs.read_entries.Reads as read-entries
 use Rattle.layout.proofs.scan.scan_layout.Reads as scan-layout
 use Rattle.layout.proofs.index.read_procedure_root_at.Reads as read-procedure-root-at
 use Rattle.layout.proofs.index.read_node_entry_at.Reads as read-node-entry-at
@@ -81,12 +81,13 @@ use Rattle.resolved.proofs.slots.build_slots.Reads as build-slots
 use Rattle.resolved.proofs.digests.digest_place.Reads as digest-place
 use Rattle.resolved.proofs.digests.digest_by_counting.Reads as digest-by-counting
 use Rattle.resolved.proofs.digests.digest_with_table.Reads as digest-with-table
-use Rattle.resolved.proofs.checks.check_children.Reads as check-children
-use Rattle.resolved.proofs.checks.check_order.Reads as check-order
-use Rattle.resolved.proofs.checks.check_strict.Reads as check-strict
+use Rattle.checks.proofs.check_children.Reads as check-children
+use Rattle.checks.proofs.check_order.Reads as check-order
+use Rattle.checks.proofs.check_strict.Reads as check-strict
 use Rattle.view.proofs.root_in.Reads as root-in
 use Rattle.view.proofs.entry_in.Reads as entry-in
 use Rattle.view.proofs.digest_in.Reads as digest-in
+use Rattle.keys.proofs.sort.settle.Reads as settle
 use Rattle.advice.proofs.walk.walk_map.Reads as walk-map
 use Rattle.advice.proofs.lookup.lookup.Reads as lookup
 use Rattle.advice.proofs.lookup.values.Reads as values
@@ -114,6 +115,8 @@ use Rattle.page.proofs.sheet.write_refusal.Reads as write-refusal
 use Rattle.page.proofs.answer.layout_page.Reads as layout-page
 use Rattle.page.proofs.words.stand_in_facts.Reads as stand-in-facts
 use Rattle.page.proofs.words.read_facts.Reads as read-facts
+use Rattle.page.proofs.program.words_wrong.Reads as words-wrong
+use Rattle.page.proofs.program.program.Reads as program
 use Rattle.view.proofs.view_of as v-view-of
 use Rattle.view.proofs.root as v-root
 use Rattle.view.proofs.entry as v-entry
@@ -146,7 +149,7 @@ pub asks-nothing :
     × AsksNothing encode-entry.Pre
     × AsksNothing read-entry.Pre
     × AsksNothing canonical-word.Pre
-    -- layout
+    -- layout, and the rows under it
     × AsksNothing bad-format.Pre
     × AsksNothing row-place.Pre
     × AsksNothing row-entry.Pre
@@ -161,6 +164,7 @@ pub asks-nothing :
     × AsksNothing digest-place.Pre
     × AsksNothing digest-by-counting.Pre
     × AsksNothing digest-with-table.Pre
+    -- checks
     × AsksNothing check-children.Pre
     × AsksNothing check-order.Pre
     × AsksNothing check-strict.Pre
@@ -168,6 +172,8 @@ pub asks-nothing :
     × AsksNothing root-in.Pre
     × AsksNothing entry-in.Pre
     × AsksNothing digest-in.Pre
+    -- keys
+    × AsksNothing settle.Pre
     -- advice
     × AsksNothing walk-map.Pre
     × AsksNothing lookup.Pre
@@ -199,8 +205,10 @@ pub asks-nothing :
     × AsksNothing layout-page.Pre
     × AsksNothing stand-in-facts.Pre
     × AsksNothing read-facts.Pre
+    × AsksNothing words-wrong.Pre
+    × AsksNothing program.Pre
 asks-nothing =
-    (λ κs a. tt, λ κs a. tt, λ κs a. tt, λ κs a. tt, λ κs a. tt, λ κs a. tt, λ κs a. tt, λ κs a. tt, λ κs a. tt, λ κs a. tt, λ κs a. tt, λ κs a. tt, λ κs a. tt, λ κs a. tt, λ κs a. tt, λ κs a. tt, λ κs a. tt, λ κs a. tt, λ κs a. tt, λ κs a. tt, λ κs a. tt, λ κs a. tt, λ κs a. tt, λ κs a. tt, λ κs a. tt, λ κs a. tt, λ κs a. tt, λ κs a. tt, λ κs a. tt, λ κs a. tt, λ κs a. tt, λ κs a. tt, λ κs a. tt, λ κs a. tt, λ κs a. tt, λ κs a. tt, λ κs a. tt, λ κs a. tt, λ κs a. tt, λ κs a. tt, λ κs a. tt, λ κs a. tt, λ κs a. tt, λ κs a. tt, λ κs a. tt, λ κs a. tt, λ κs a. tt, λ κs a. tt, λ κs a. tt, λ κs a. tt, λ κs a. tt, λ κs a. tt, λ κs a. tt, λ κs a. tt, λ κs a. tt, λ κs a. tt, λ κs a. tt, λ κs a. tt, λ κs a. tt, λ κs a. tt, λ κs a. tt, λ κs a. tt, λ κs a. tt, λ κs a. tt, λ κs a. tt)
+    (λ κs a. tt, λ κs a. tt, λ κs a. tt, λ κs a. tt, λ κs a. tt, λ κs a. tt, λ κs a. tt, λ κs a. tt, λ κs a. tt, λ κs a. tt, λ κs a. tt, λ κs a. tt, λ κs a. tt, λ κs a. tt, λ κs a. tt, λ κs a. tt, λ κs a. tt, λ κs a. tt, λ κs a. tt, λ κs a. tt, λ κs a. tt, λ κs a. tt, λ κs a. tt, λ κs a. tt, λ κs a. tt, λ κs a. tt, λ κs a. tt, λ κs a. tt, λ κs a. tt, λ κs a. tt, λ κs a. tt, λ κs a. tt, λ κs a. tt, λ κs a. tt, λ κs a. tt, λ κs a. tt, λ κs a. tt, λ κs a. tt, λ κs a. tt, λ κs a. tt, λ κs a. tt, λ κs a. tt, λ κs a. tt, λ κs a. tt, λ κs a. tt, λ κs a. tt, λ κs a. tt, λ κs a. tt, λ κs a. tt, λ κs a. tt, λ κs a. tt, λ κs a. tt, λ κs a. tt, λ κs a. tt, λ κs a. tt, λ κs a. tt, λ κs a. tt, λ κs a. tt, λ κs a. tt, λ κs a. tt, λ κs a. tt, λ κs a. tt, λ κs a. tt, λ κs a. tt, λ κs a. tt, λ κs a. tt, λ κs a. tt, λ κs a. tt)
 
 -- the functions that take or make a view, of whose contracts the toolchain makes no `Pre`: in every model, by their own clauses
 module _ {M : Type 1} (𝓤 : URA M) (H : Heap 𝓤) (A : Atoms 𝓤) (mem : Memory → SProp 𝓤) (run : Routine → Fun 𝓤) (κs : Lfts 1) where

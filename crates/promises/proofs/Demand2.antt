@@ -36,12 +36,12 @@ use Rattle.layout.specs.declared.facts.Bound.{Bound}
 use Rattle.layout.specs.declared.forest.ForestLayout.{ForestLayout}
 use Rattle.layout.specs.declared.scan.Scan.{Scan}
 use Rattle.layout.specs.declared.scan.Scan.the-variants as scan
-use Rattle.layout.specs.declared.rows.RowEntry.{RowEntry}
-use Rattle.layout.specs.declared.rows.RowEntry.the-variants as row
+use Rattle.rows.specs.declared.RowEntry.{RowEntry}
+use Rattle.rows.specs.declared.RowEntry.the-variants as row
 use Rattle.resolved.specs.Nodes.{externalNode}
 use Rattle.resolved.specs.Slots.{slotOf, rowsOf}
 use Rattle.resolved.specs.declared.slots.SlotsBuilt.the-variants.{Filled}
-use Rattle.advice.specs.Keys.{seenKey}
+use Rattle.keys.specs.Keys.{seenKey}
 use Rattle.advice.specs.Walk.{shownKeys, Walked, walked, firstEntry, mapRules, keyTable, Risen}
 use Rattle.advice.specs.Shown.{shownWalk}
 use Rattle.advice.specs.declared.walk.MapWalk.{MapWalk}

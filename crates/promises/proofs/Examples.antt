@@ -17,7 +17,7 @@ use Rattle.info.specs.declared.MastNodeEntry.{MastNodeEntry}
 use Rattle.info.specs.declared.MastNodeEntry.the-variants.{Join, Dyn}
 use Rattle.layout.specs.Facts.{badFormat, overBudget}
 use Rattle.layout.specs.Scan.{wordsRules, externals, scanRules, scanOutcome}
-use Rattle.layout.specs.Rows.{rowRules, rowOutcome, entryPass}
+use Rattle.rows.specs.Rows.{rowRules, rowOutcome, entryPass}
 use Rattle.resolved.specs.Slots.{countOf, slotsOf, tableRules, slotsOutcome, tableAfter}
 use Rattle.advice.specs.Walk.{walkRules, walkEnd, mapRules, walkOutcome}
 use Rattle.page.specs.Text.{decimalIn, decimal, piece, holesPast, filledFrom}

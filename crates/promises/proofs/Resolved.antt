@@ -11,7 +11,7 @@ use denote.Ref.{now}
 use lib.ListN.{length, getD}
 use Rattle.wire.specs.Table.{accepted}
 use Rattle.wire.specs.declared.units.ByteOffset.{ByteOffset}
-use Rattle.layout.specs.Rows.{rowAt}
+use Rattle.rows.specs.Rows.{rowAt}
 use Rattle.layout.specs.declared.facts.FormatFacts.{FormatFacts}
 use Rattle.layout.specs.declared.facts.Bound.{Bound}
 use Rattle.layout.specs.declared.forest.ForestLayout.{ForestLayout}
@@ -21,23 +21,24 @@ use Rattle.layout.specs.declared.scan.Scan.the-variants.{Accepted}
 use Rattle.resolved.specs.Nodes.{externalNode}
 use Rattle.resolved.specs.Slots.{slotOf, rowsOf, slotsOutcome, tableAfter}
 use Rattle.resolved.specs.Digests.{sectionOf, digestByCounting, digestWithTable, digestOf}
-use Rattle.resolved.specs.Checks.{Reaches, childrenOutcome, Ordered, orderOutcome}
-use Rattle.resolved.specs.Shown.{shownSlots, shownDigest, shownCheck}
+use Rattle.checks.specs.Checks.{Reaches, childrenOutcome, Ordered, orderOutcome}
+use Rattle.checks.specs.Shown.{shownCheck}
+use Rattle.resolved.specs.Shown.{shownSlots, shownDigest}
 use Rattle.resolved.specs.declared.slots.SlotsBuilt.{SlotsBuilt}
 use Rattle.resolved.specs.declared.slots.SlotsBuilt.the-variants.{Filled}
 use Rattle.resolved.specs.declared.digests.DigestRead.{DigestRead}
-use Rattle.resolved.specs.declared.checks.NodeCheck.{NodeCheck}
-use Rattle.resolved.specs.declared.checks.NodeCheck.the-variants.{Holds}
+use Rattle.checks.specs.declared.NodeCheck.{NodeCheck}
+use Rattle.checks.specs.declared.NodeCheck.the-variants.{Holds}
 use Rattle.resolved.proofs.Answers.{digest-one}
 use Rattle.resolved.proofs.SlotLaws.{slots-distinct}
 use Rattle.resolved.proofs.Sections as sections
 use Rattle.resolved.proofs.Readers.{built-slot, readers-agree}
-use Rattle.resolved.proofs.Ordered.{no-node-reaches-itself, order-holds}
+use Rattle.checks.proofs.Ordered.{no-node-reaches-itself, order-holds}
 use Rattle.resolved.proofs.slots.build_slots.Reads as build-slots
 use Rattle.resolved.proofs.digests.digest_by_counting.Reads as counting
 use Rattle.resolved.proofs.digests.digest_with_table.Reads as tabled
-use Rattle.resolved.proofs.checks.check_children.Reads as children
-use Rattle.resolved.proofs.checks.check_order.Reads as order
+use Rattle.checks.proofs.check_children.Reads as children
+use Rattle.checks.proofs.check_order.Reads as order
 use Rattle.promises.proofs.Scan.{Scans, sections-end-to-end, nodes-counted}
 
 -- ---- what the functions' promises allow

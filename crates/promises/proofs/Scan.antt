@@ -20,17 +20,19 @@ use Rattle.info.specs.declared.MastNodeEntry.{MastNodeEntry}
 use Rattle.layout.specs.Scan.{scanRules, layoutShown, scanOutcome}
 use Rattle.layout.specs.Accepted.{EndToEnd, Counted}
 use Rattle.layout.specs.Index.{rootAt, rootOutcome, nodeOutcome}
-use Rattle.layout.specs.Shown.{shownScan, shownRow, shownRoot}
+use Rattle.rows.specs.Shown.{shownRow}
+use Rattle.layout.specs.Shown.{shownScan, shownRoot}
 use Rattle.layout.specs.declared.facts.FormatFacts.{FormatFacts}
 use Rattle.layout.specs.declared.facts.Bound.{Bound}
 use Rattle.layout.specs.declared.forest.ForestLayout.{ForestLayout}
 use Rattle.layout.specs.declared.scan.Scan.{Scan}
 use Rattle.layout.specs.declared.scan.Scan.the-variants.{Accepted, Refused}
-use Rattle.layout.specs.declared.rows.RowEntry.{RowEntry}
-use Rattle.layout.specs.declared.rows.RowEntry.the-variants as row
+use Rattle.rows.specs.declared.RowEntry.{RowEntry}
+use Rattle.rows.specs.declared.RowEntry.the-variants as row
 use Rattle.layout.specs.declared.index.RootRead.{RootRead}
 use Rattle.layout.specs.declared.index.RootRead.the-variants as root
-use Rattle.layout.proofs.Answers.{scanBack, scan-again, rowBack, row-again, rootBack, root-again}
+use Rattle.rows.proofs.Answers.{rowBack, row-again}
+use Rattle.layout.proofs.Answers.{scanBack, scan-again, rootBack, root-again}
 use Rattle.layout.proofs.Accepted.{end-to-end, all-counted, node-answers, root-answers}
 use Rattle.layout.proofs.scan.scan_layout.Reads as scan-layout
 use Rattle.layout.proofs.index.read_node_entry_at.Reads as read-node

@@ -41,26 +41,30 @@ use Rattle.info.proofs.decode_entry.Reads as decode-entry
 use Rattle.info.proofs.encode_entry.Reads as encode-entry
 use Rattle.info.proofs.read_entry.Reads as read-entry
 use Rattle.info.proofs.canonical_word.Reads as canonical-word
-use Rattle.layout.specs.Shown.{shownRow, shownPass, shownRoot, shownScan}
-use Rattle.layout.proofs.Answers.{rowBack, row-again, passBack, pass-again, rootBack, root-again, scanBack, scan-again}
+use Rattle.rows.specs.Shown.{shownRow, shownPass}
+use Rattle.layout.specs.Shown.{shownRoot, shownScan}
+use Rattle.rows.proofs.Answers.{rowBack, row-again, passBack, pass-again}
+use Rattle.layout.proofs.Answers.{rootBack, root-again, scanBack, scan-again}
 use Rattle.layout.proofs.facts.bad_format.Reads as bad-format
-use Rattle.layout.proofs.rows.row_place.Reads as row-place
-use Rattle.layout.proofs.rows.row_entry.Reads as row-entry
-use Rattle.layout.proofs.rows.external_one.Reads as external-one
-use Rattle.layout.proofs.rows.read_each.Reads as read-each
-use Rattle.layout.proofs.rows.read_entries.Reads as read-entries
+use Rattle.rows.proofs.row_place.Reads as row-place
+use Rattle.rows.proofs.row_entry.Reads as row-entry
+use Rattle.rows.proofs.external_one.Reads as external-one
+use Rattle.rows.proofs.read_each.Reads as read-each
+use Rattle.rows.proofs.read_entries.Reads as read-entries
 use Rattle.layout.proofs.scan.scan_layout.Reads as scan-layout
 use Rattle.layout.proofs.index.read_procedure_root_at.Reads as read-procedure-root-at
 use Rattle.layout.proofs.index.read_node_entry_at.Reads as read-node-entry-at
-use Rattle.resolved.specs.Shown.{shownSlots, shownCheck as shownNodes}
-use Rattle.resolved.proofs.Answers.{slotsBack, slots-again, checkBack as nodesBack, check-again as nodes-again, digest-one}
+use Rattle.checks.specs.Shown.{shownCheck as shownNodes}
+use Rattle.resolved.specs.Shown.{shownSlots}
+use Rattle.checks.proofs.Answers.{checkBack as nodesBack, check-again as nodes-again}
+use Rattle.resolved.proofs.Answers.{slotsBack, slots-again, digest-one}
 use Rattle.resolved.proofs.slots.build_slots.Reads as build-slots
 use Rattle.resolved.proofs.digests.digest_place.Reads as digest-place
 use Rattle.resolved.proofs.digests.digest_by_counting.Reads as digest-by-counting
 use Rattle.resolved.proofs.digests.digest_with_table.Reads as digest-with-table
-use Rattle.resolved.proofs.checks.check_children.Reads as check-children
-use Rattle.resolved.proofs.checks.check_order.Reads as check-order
-use Rattle.resolved.proofs.checks.check_strict.Reads as check-strict
+use Rattle.checks.proofs.check_children.Reads as check-children
+use Rattle.checks.proofs.check_order.Reads as check-order
+use Rattle.checks.proofs.check_strict.Reads as check-strict
 use Rattle.view.proofs.view_of as v-view-of
 use Rattle.view.proofs.root as v-root
 use Rattle.view.proofs.entry as v-entry
@@ -70,6 +74,7 @@ use Rattle.view.proofs.entry_in.Reads as entry-in
 use Rattle.view.proofs.digest_in.Reads as digest-in
 use Rattle.advice.specs.Shown.{shownWalk, shownLookup}
 use Rattle.advice.proofs.Answers.{walkBack, walk-again, lookupBack, lookup-again}
+use Rattle.keys.proofs.sort.settle.Reads as settle
 use Rattle.advice.proofs.walk.walk_map.Reads as walk-map
 use Rattle.advice.proofs.lookup.lookup.Reads as lookup
 use Rattle.advice.proofs.lookup.values.Reads as values
@@ -104,6 +109,8 @@ use Rattle.page.proofs.sheet.write_refusal.Reads as write-refusal
 use Rattle.page.proofs.answer.layout_page.Reads as layout-page
 use Rattle.page.proofs.words.stand_in_facts.Reads as stand-in-facts
 use Rattle.page.proofs.words.read_facts.Reads as read-facts
+use Rattle.page.proofs.program.words_wrong.Reads as words-wrong
+use Rattle.page.proofs.program.program.Reads as program
 
 -- the results that a promise allows are one
 abbrev pub One : {K : Type 0} {A R E : K → Type 0} → ((κs : K) → A κs → R κs → E κs → Type 0) → Type 0
@@ -226,6 +233,8 @@ digest-by-counting-one κs a r r′ e e′ p p′ = digest-one _ r r′ p p′
 pub digest-with-table-one : One digest-with-table.Post
 digest-with-table-one κs a r r′ e e′ p p′ = digest-one _ r r′ p p′
 
+-- ---- checks
+
 pub check-children-one : One check-children.Post
 check-children-one κs a r r′ e e′ p p′ = same-answer shownNodes nodesBack nodes-again _ r r′ p p′
 
@@ -245,6 +254,14 @@ entry-in-one κs a r r′ e e′ p p′ = same-answer shownRow rowBack row-again
 
 pub digest-in-one : One digest-in.Post
 digest-in-one κs a r r′ e e′ p p′ = digest-one _ r r′ p p′
+
+-- ---- keys
+
+pub settle-one : One settle.Post
+settle-one κs a r r′ e e′ p p′ = p .0 ∙ sym (p′ .0)
+
+pub settle-leaves : (κs : _) (a : _) (r r′ : _) (e e′ : _) → settle.Post κs a r e → settle.Post κs a r′ e′ → now (e .1 .0) ≡ now (e′ .1 .0)
+settle-leaves κs a r r′ e e′ p p′ = p .1 ∙ sym (p′ .1)
 
 -- ---- advice
 
@@ -415,6 +432,13 @@ both-facts r r′ p q = ap (λ (x : WordsCheck). record { answer = x; facts = r 
 
 pub read-facts-one : (κs : _) (a : _) (r r′ : _) (e e′ : _) → read-facts.Post κs a r e → read-facts.Post κs a r′ e′ → r ≡ r′
 read-facts-one κs a r r′ e e′ p p′ = both-facts r r′ (p .0 ∙ sym (p′ .0)) (p .1 ∙ sym (p′ .1))
+
+pub words-wrong-one : One words-wrong.Post
+words-wrong-one κs a r r′ e e′ p p′ = p ∙ sym p′
+
+-- what is said, and the buffer
+pub program-one : (κs : _) (a : _) (r r′ : _) (e e′ : _) → program.Post κs a r e → program.Post κs a r′ e′ → (r ≡ r′) × (now (e .1 .1 .1 .1 .0) ≡ now (e′ .1 .1 .1 .1 .0))
+program-one κs a r r′ e e′ p p′ = (p .0 ∙ sym (p′ .0), p .1 ∙ sym (p′ .1))
 
 -- ---- view: the functions that take or make a view. The toolchain makes no `Post` of a contract with a view in it, so each law is over the
 -- function's own clauses: what they say of r beside what they say of r′ gives that r and r′ are equal, in every model and whatever is at exit.

@@ -18,7 +18,7 @@ use Rattle.layout.specs.Facts.{badFormat, overBudget}
 use Rattle.layout.specs.Scan.{wordsRules, externals, scanRules, scanOutcome}
 use Rattle.layout.specs.declared.facts.FormatFacts.{FormatFacts}
 use Rattle.layout.specs.declared.facts.Bound.the-variants.{None}
-use Rattle.advice.specs.Keys.{sameKey, seenKey}
+use Rattle.keys.specs.Keys.{sameKey, seenKey}
 use Rattle.advice.specs.Walk.{walkRules, walkEnd, walkShown, mapRules, walkOutcome}
 use Rattle.writer.specs.Parts.{joined, partsShown}
 use Rattle.writer.specs.Writer.{adviceBytes, headBytes, rootBytes, blockBytes, nodeBytes, mapBytes, writtenFile}

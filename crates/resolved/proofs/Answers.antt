@@ -6,14 +6,12 @@ use Prim.Native.Nat.{ℕ}
 use Rattle.wire.specs.Table.{Outcome, refused, accepted}
 use Rattle.wire.proofs.Refusals.{refusalOf, refusal-again}
 use Rattle.layout.specs.declared.facts.Bound.{Bound}
-use Rattle.resolved.specs.Shown.{shownSlots, shownAnswer, shownCheck}
+use Rattle.resolved.specs.Shown.{shownSlots, shownAnswer}
 use Rattle.resolved.specs.declared.slots.SlotsBuilt.{SlotsBuilt}
 use Rattle.resolved.specs.declared.slots.SlotsBuilt.the-variants as slots
 use Rattle.resolved.specs.declared.digests.DigestAnswer.{DigestAnswer}
 use Rattle.resolved.specs.declared.digests.DigestAnswer.the-variants as digest
 use Rattle.resolved.specs.declared.digests.DigestRead.{DigestRead}
-use Rattle.resolved.specs.declared.checks.NodeCheck.{NodeCheck}
-use Rattle.resolved.specs.declared.checks.NodeCheck.the-variants as check
 use Rattle.resolved.proofs.DigestLaws.{Digested}
 
 abbrev pub slotsBack : Outcome Bound → SlotsBuilt
@@ -23,14 +21,6 @@ slotsBack (accepted left) = slots.Filled left
 pub slots-again : (r : SlotsBuilt) → slotsBack (shownSlots r) ≡ r
 slots-again (slots.Filled left) = refl
 slots-again (slots.Refused why i) = ap (λ w. slots.Refused w i) (refusal-again why)
-
-abbrev pub checkBack : Outcome (Unit {0}) → NodeCheck
-checkBack (refused n i) = check.Refused (refusalOf n) i
-checkBack (accepted u) = check.Holds
-
-pub check-again : (r : NodeCheck) → checkBack (shownCheck r) ≡ r
-check-again check.Holds = refl
-check-again (check.Refused why i) = ap (λ w. check.Refused w i) (refusal-again why)
 
 abbrev pub answerBack : Outcome (List ℕ) → DigestAnswer
 answerBack (refused n i) = digest.Refused (refusalOf n) i

@@ -15,18 +15,17 @@ use Rattle.wire.proofs.Tables.{accepted-none, replaced-accepted, replaced-refus
 use Rattle.info.specs.Entry.{isExternal}
 use Rattle.info.specs.declared.MastNodeEntry.{MastNodeEntry}
 use Rattle.info.specs.declared.MastNodeEntry.the-variants.{Join, Split, Loop, Block, Call, SysCall, Dyn, Dyncall, External}
-use Rattle.layout.specs.Rows.{rowAt, rowOver, entryPass}
+use Rattle.rows.specs.Rows.{rowAt, rowOver, externalOne, entryPass}
 use Rattle.layout.specs.declared.forest.ForestLayout.{ForestLayout}
 use Rattle.resolved.specs.Nodes.{nodeEntry, kindOf, externalNode}
 use Rattle.resolved.specs.Slots.{slotOf}
 use Rattle.resolved.specs.Digests.{sectionOf, digestRules, digestAt, digestIn, digestByCounting, digestWithTable, digestOf, noDigest}
-use Rattle.resolved.specs.Checks.{classOf}
 use Rattle.resolved.specs.Shown.{shownDigest}
 use Rattle.resolved.specs.declared.digests.DigestRead.{DigestRead}
 use Rattle.resolved.proofs.SlotLaws.{slot-is, counted-kinds}
 
 -- the lowest class is that of the externals
-pub external-class : (e : MastNodeEntry) → eqb (classOf e) 0 ≡ isExternal e
+pub external-class : (e : MastNodeEntry) → eqb (externalOne e) 1 ≡ isExternal e
 external-class (Join left right) = refl
 external-class (Split then else) = refl
 external-class (Loop body) = refl

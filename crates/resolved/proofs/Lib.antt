@@ -1,9 +1,6 @@
 pub mod Pass
-pub mod Stages
 pub mod SlotLaws
-pub mod CheckLaws
 pub mod DigestLaws
 pub mod Answers
 pub mod Readers
 pub mod Sections
-pub mod Ordered

@@ -11,7 +11,7 @@ use native.Mathlib.Omega.{arith}
 use Rattle.wire.specs.Table.{Outcome, refused, accepted, _>>=_}
 use Rattle.wire.proofs.Stages.{both-taken}
 use Rattle.info.specs.declared.MastNodeEntry.{MastNodeEntry}
-use Rattle.layout.specs.Rows.{externalOne, entryPass}
+use Rattle.rows.specs.Rows.{externalOne, entryPass}
 use Rattle.resolved.specs.Nodes.{nodeStep, nodePass}
 
 module _ {A : Type 0} (read : ℕ → Outcome MastNodeEntry) (judge : ℕ → A → MastNodeEntry → Outcome A) (start : A) where

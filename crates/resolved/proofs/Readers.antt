@@ -15,7 +15,7 @@ use Rattle.wire.specs.Table.{accepted, checked}
 use Rattle.wire.proofs.Stages.{both-taken}
 use Rattle.wire.proofs.Tables.{accepted-none}
 use Rattle.info.specs.declared.MastNodeEntry.{MastNodeEntry}
-use Rattle.layout.specs.Rows.{externalOne, entryPass}
+use Rattle.rows.specs.Rows.{externalOne, entryPass}
 use Rattle.layout.specs.declared.facts.Bound.{Bound}
 use Rattle.layout.specs.declared.forest.ForestLayout.{ForestLayout}
 use Rattle.resolved.specs.Nodes.{nodeEntry, externalNode}

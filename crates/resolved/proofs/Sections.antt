@@ -12,7 +12,7 @@ use native.Mathlib.Omega.{arith}
 use lib.ListN.{length}
 use Rattle.wire.specs.declared.units.ByteOffset.{ByteOffset}
 use Rattle.layout.specs.Facts.{hashBytes}
-use Rattle.layout.specs.Rows.{rowAt}
+use Rattle.rows.specs.Rows.{rowAt}
 use Rattle.layout.specs.Scan.{sectionAt, isHashless}
 use Rattle.layout.specs.declared.facts.FormatFacts.{FormatFacts}
 use Rattle.layout.specs.declared.forest.ForestLayout.{ForestLayout}

@@ -20,8 +20,8 @@ use Rattle.wire.proofs.Tables.{accepted-none}
 use Rattle.info.specs.Entry.{kinds, entryOf, isExternal, badTag, badPayload, decodeRules, decodeOutcome}
 use Rattle.info.specs.declared.MastNodeEntry.{MastNodeEntry}
 use Rattle.info.specs.declared.MastNodeEntry.the-variants.{External}
-use Rattle.layout.specs.Rows.{rowWord, rowRules, rowOutcome, externalOne, entryPass}
-use Rattle.layout.proofs.RowLaws.{inside-row}
+use Rattle.rows.specs.Rows.{rowWord, rowRules, rowOutcome, externalOne, entryPass}
+use Rattle.rows.proofs.RowLaws.{inside-row}
 use Rattle.layout.specs.declared.facts.Bound.{Bound}
 use Rattle.layout.specs.declared.forest.ForestLayout.{ForestLayout}
 use Rattle.resolved.specs.Nodes.{nodeEntry, kindOf, externalRow, externalNode}

@@ -9,7 +9,7 @@ use Rattle.wire.specs.Refusals.{SHORT, OVERFLOW, INDEX, NO-HASH, ELEMENT, ROOM}
 use Rattle.wire.specs.Le.{isShort}
 use Rattle.wire.specs.Words.{notElements, zeroWord, fourAt}
 use Rattle.info.specs.Entry.{isExternal}
-use Rattle.layout.specs.Rows.{rowAt, rowOver, entryPass}
+use Rattle.rows.specs.Rows.{rowAt, rowOver, entryPass}
 use Rattle.layout.specs.declared.forest.ForestLayout.{ForestLayout}
 use Rattle.layout.specs.declared.forest.HashSection.{HashSection}
 use Rattle.layout.specs.declared.forest.HashSection.the-variants.{At, Absent}

@@ -5,7 +5,7 @@ use mathlib.Core.List.{List}
 use Rattle.wire.specs.Table.{Outcome, refused, accepted, _>>=_}
 use Rattle.info.specs.Entry.{isExternal}
 use Rattle.info.specs.declared.MastNodeEntry.{MastNodeEntry}
-use Rattle.layout.specs.Rows.{rowOutcome}
+use Rattle.rows.specs.Rows.{rowOutcome}
 use Rattle.layout.specs.declared.forest.ForestLayout.{ForestLayout}
 
 -- the entry of node i: OVERFLOW, SHORT, TAG, PAYLOAD [the node]

@@ -9,10 +9,6 @@ use Rattle.resolved.specs.declared.slots.SlotsBuilt.the-variants as slot
 use Rattle.resolved.specs.declared.digests.DigestAnswer.{DigestAnswer}
 use Rattle.resolved.specs.declared.digests.DigestAnswer.the-variants as digest
 use Rattle.resolved.specs.declared.digests.DigestRead.{DigestRead}
-use Rattle.resolved.specs.declared.checks.NodeCheck.{NodeCheck}
-use Rattle.resolved.specs.declared.checks.NodeCheck.the-variants as check
-use Rattle.resolved.specs.declared.checks.OrderStep.{OrderStep}
-use Rattle.resolved.specs.declared.checks.OrderStep.the-variants as order
 
 -- what is left of the bound
 abbrev pub shownSlots : SlotsBuilt → Outcome Bound
@@ -26,12 +22,3 @@ shownAnswer (digest.Refused why i) word = refused (numberOf why) i
 
 abbrev pub shownDigest : DigestRead → Outcome (List ℕ)
 shownDigest r = shownAnswer (r .answer) (r .word)
-
-abbrev pub shownCheck : NodeCheck → Outcome (Unit {0})
-shownCheck check.Holds = accepted tt
-shownCheck (check.Refused why i) = refused (numberOf why) i
-
--- of one node in the order: its class is handed on
-abbrev pub shownOrder : OrderStep → Outcome ℕ
-shownOrder (order.Class class) = accepted class
-shownOrder (order.Refused why i) = refused (numberOf why) i

@@ -6,7 +6,7 @@ use lib.Dec.{ltb}
 use lib.ListN.{length, drop}
 use Rattle.wire.specs.Table.{Rule, rule, Outcome, refused, accepted, pick, checked, _>>=_}
 use Rattle.wire.specs.Refusals.{TOO-MANY, BUDGET, ROOM}
-use Rattle.layout.specs.Rows.{entryPass}
+use Rattle.rows.specs.Rows.{entryPass}
 use Rattle.layout.specs.declared.facts.Bound.{Bound}
 use Rattle.layout.specs.declared.facts.Bound.the-variants.{None, Bytes}
 use Rattle.layout.specs.declared.forest.ForestLayout.{ForestLayout}

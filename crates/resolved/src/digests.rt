@@ -1,16 +1,16 @@
 // The digest of a node by its index: in the section of its kind, in its slot, which is counted or
 // taken from a lent table. Digest rows are not held against the section's count: a layout record may
 // say anything, and each reader looks at the bytes again.
-use crate::checks::class_of;
 use info::MastNodeEntry;
 use layout::forest::ForestLayout;
 use layout::forest::HashSection;
-use layout::rows::EntryPass;
-use layout::rows::RowEntry;
-use layout::rows::RowPlace;
-use layout::rows::read_entries;
-use layout::rows::row_entry;
-use layout::rows::row_place;
+use rows::EntryPass;
+use rows::RowEntry;
+use rows::RowPlace;
+use rows::external_one;
+use rows::read_entries;
+use rows::row_entry;
+use rows::row_place;
 use wire::refusal::Refusal;
 use wire::units::ByteOffset;
 use wire::units::Slot;
@@ -20,7 +20,7 @@ ghost use mathlib.Core.Path.{_≡_};
 ghost use Prim.Native.Nat.{_-_};
 ghost use Rattle.wire.specs.Table.{pick};
 ghost use Rattle.info.specs.Entry.{isExternal};
-ghost use Rattle.layout.specs.Rows.{rowPlace};
+ghost use Rattle.rows.specs.Rows.{rowPlace};
 ghost use Rattle.resolved.specs.Digests.{sectionOf, digestAt, digestIn, noDigest, digestByCounting, digestWithTable, digestOf};
 ghost use Rattle.resolved.specs.Shown.{shownDigest};
 
@@ -95,7 +95,7 @@ fn digest_in(s: &[u8], layout: ForestLayout, index: usize, external: bool, slot:
 fn is_external(entry: MastNodeEntry) -> bool
     ensures { λ r. ⌜ r ≡ isExternal entry ⌝ }
 {
-    class_of(entry) == 0
+    external_one(entry) == 1
 }
 
 // The slot of a node of a kind after so many others, some of them External.

@@ -1,5 +1,4 @@
-// The nodes of a file by any layout record: the slot table, digests by index, and the checks of all
-// nodes. What each function promises is in specs/.
-pub mod checks;
+// The nodes of a file by any layout record: the slot table and digests by index. What each function
+// promises is in specs/.
 pub mod digests;
 pub mod slots;

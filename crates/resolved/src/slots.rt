@@ -3,8 +3,8 @@
 // needs only each node's kind, which is in the top byte of its row.
 use layout::facts::Bound;
 use layout::forest::ForestLayout;
-use layout::rows::EntryPass;
-use layout::rows::read_entries;
+use rows::EntryPass;
+use rows::read_entries;
 use wire::refusal::Refusal;
 use wire::units::ByteOffset;
 ghost use mathlib.Core.Path.{_≡_};

@@ -5,12 +5,13 @@ use layout::forest::ForestLayout;
 use layout::index::RootRead;
 use layout::index::read_node_entry_at;
 use layout::index::read_procedure_root_at;
-use layout::rows::RowEntry;
 use resolved::digests::DigestRead;
 use resolved::digests::digest_by_counting;
+use rows::RowEntry;
 ghost use mathlib.Core.Path.{_≡_};
 ghost use Rattle.layout.specs.Index.{rootOutcome, nodeOutcome};
-ghost use Rattle.layout.specs.Shown.{shownRow, shownRoot};
+ghost use Rattle.rows.specs.Shown.{shownRow};
+ghost use Rattle.layout.specs.Shown.{shownRoot};
 ghost use Rattle.resolved.specs.Digests.{digestByCounting, digestOf};
 ghost use Rattle.resolved.specs.Shown.{shownDigest};
 

@@ -16,7 +16,7 @@ use Rattle.wire.specs.declared.word.WordOrder.{WordOrder}
 use Rattle.wire.specs.declared.word.WordOrder.the-variants.{Below, Same, Above}
 use Rattle.wire.proofs.Counts.{lt-or-ge}
 use Rattle.wire.proofs.Words.{elements-mean, order-irreflexive, order-transitive, order-same}
-use Rattle.advice.specs.Keys.{isSame, sameKey, seenKey}
+use Rattle.keys.specs.Keys.{isSame, sameKey, seenKey}
 use Rattle.writer.specs.Writer.{keyRules}
 use Rattle.writer.specs.Inner.{keyAt, keysBefore, Top}
 

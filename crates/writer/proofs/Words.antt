@@ -15,9 +15,9 @@ use Rattle.wire.proofs.Tables.{none-parts, accepted-none, none-accepted}
 use Rattle.info.specs.Entry.{entryOf, badTag, badPayload, decodeRules, decodeOutcome, wordOf, wideIds, encodeOutcome, canonical}
 use Rattle.info.specs.declared.MastNodeEntry.{MastNodeEntry}
 use Rattle.info.proofs.Laws.{decoded-encodes}
-use Rattle.layout.specs.Rows.{externalOne}
+use Rattle.rows.specs.Rows.{externalOne}
 use Rattle.layout.specs.Scan.{wordsRules, externals}
-use Rattle.layout.proofs.Pass.{external-le}
+use Rattle.rows.proofs.Pass.{external-le}
 use Rattle.writer.specs.Writer.{written}
 use Rattle.writer.specs.Inner.{wordsOutcome}
 

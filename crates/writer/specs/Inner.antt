@@ -17,7 +17,7 @@ use Rattle.wire.specs.declared.word.WordOrder.the-variants.{Below, Same, Above}
 use Rattle.layout.specs.Facts.{share, badFormat, hashBytes}
 use Rattle.layout.specs.Scan.{wordsRules, externals}
 use Rattle.layout.specs.declared.facts.FormatFacts.{FormatFacts}
-use Rattle.advice.specs.Keys.{seenKey}
+use Rattle.keys.specs.Keys.{seenKey}
 use Rattle.writer.specs.Parts.{Parts}
 use Rattle.writer.specs.Writer.{sum, keyRules}
 use Rattle.writer.specs.declared.check.PartsCheck.{PartsCheck}

@@ -14,7 +14,7 @@ use Rattle.info.specs.Entry.{entryOf, wordOf}
 use Rattle.layout.specs.Facts.{share, badFormat, hashBytes}
 use Rattle.layout.specs.Scan.{wordsRules, externals}
 use Rattle.layout.specs.declared.facts.FormatFacts.{FormatFacts}
-use Rattle.advice.specs.Keys.{seenKey}
+use Rattle.keys.specs.Keys.{seenKey}
 use Rattle.writer.specs.Parts.{Parts}
 
 -- ---- the file

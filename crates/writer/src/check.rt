@@ -5,7 +5,7 @@ use info::Decoded;
 use info::decode_entry;
 use layout::facts::FormatFacts;
 use layout::facts::bad_format;
-use layout::rows::external_one;
+use rows::external_one;
 use wire::refusal::Refusal;
 ghost use mathlib.Core.Path.{_≡_};
 ghost use mathlib.Core.Bool.{not};

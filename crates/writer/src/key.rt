@@ -12,7 +12,7 @@ ghost use Prim.Native.Nat.{_+_, _*_, _≤_};
 ghost use lib.ListN.{length};
 ghost use Rattle.wire.specs.Table.{checked};
 ghost use Rattle.wire.specs.Words.{notElements};
-ghost use Rattle.advice.specs.Keys.{seenKey};
+ghost use Rattle.keys.specs.Keys.{seenKey};
 ghost use Rattle.writer.specs.Writer.{keyRules};
 ghost use Rattle.writer.specs.Inner.{shownCheck, keyAt, keysBefore, Top, Told};
 

@@ -1,21 +1,20 @@
--- `mast_layout::read_input` meets its contract: the bytes that were read lie in the buffer, whose length no read changes.
+-- `mast_layout::read_input` is safe: the bytes that were read lie in the buffer, whose length no read changes.
 -- Assumes nothing.
-use mathlib.Core.Path.{_≡_, refl, sym, _∙_}
+use mathlib.Core.Path.{_≡_, refl, _∙_}
 use mathlib.Core.List.{List}
 use Prim.Native.Nat.{ℕ, _+_, _-_, _≤_}
 use native.Mathlib.Omega.{arith}
 use borrow.Author.Needs.{needs}
 use borrow.Rule.Slice.PartMut.{putMid, same-len-mid}
 use lib.ListN.{length, length-take, length-drop}
-use lib.Seq.{length-take-le}
 use Rattle.mast_layout.proofs.read_input.Statement.{statement}
 use Rattle.mast_layout.proofs.read_input.Tie as tie
 
 abbrev Inv-loop : tie.InvT-loop
-Inv-loop buf₀ n₀ buf n = (n ≤ length buf) × (length buf ≡ length buf₀)
+Inv-loop buf₀ unwanted n₀ buf n = (n ≤ length buf) × (length buf ≡ length buf₀)
 
 abbrev μ-loop : tie.MeasureT-loop
-μ-loop buf₀ n₀ buf n = length buf - n
+μ-loop buf₀ unwanted n₀ buf n = length buf - n
 
 -- the buffer after a read; it is as long as it was
 abbrev after : tie.After-read Inv-loop μ-loop → List ℕ
@@ -38,9 +37,6 @@ same-length c =
     let r = c .before .before .before in
     kept r ∙ r .before .before .before .loop .inv .1
 
-returns : tie.Need-returns Inv-loop μ-loop
-returns c = (omega arith, refl)
-
 sub-count : tie.Need-sub-count Inv-loop μ-loop
 sub-count c = let same = kept (c .before .before .before) in omega arith
 
@@ -55,14 +51,6 @@ same-length-2 c =
     let r = c .before .before .before .before .before .before .before in
     kept r ∙ r .before .before .before .loop .inv .1
 
-returns-2 : tie.Need-returns-2 Inv-loop μ-loop
-returns-2 c =
-    let l = c .before .before .before .before .before .before .before .before .before .before .loop in
-    let r = c .before .before .before .before .before .before .before in
-    let same = kept r in
-    let low : l .n ≤ length (after r) = omega arith in
-    (low, sym (length-take-le (l .n) (after r) low))
-
 add-n : tie.Need-add-n Inv-loop μ-loop
 add-n c = let low = inside (c .before) in omega (arith, kept (c .before .before .before .before .before .before .before))
 
@@ -74,30 +62,28 @@ loop-again c =
     let r = c .before .before .before .before .before .before .before in
     (inside (c .before), kept r ∙ r .before .before .before .loop .inv .1)
 
-returns-3 : tie.Need-returns-3 Inv-loop μ-loop
-returns-3 c = let l = c .before .loop in (l .inv .0, sym (length-take-le (l .n) (l .buf) (l .inv .0)))
-
 pub read-input-spec : {M : Type 1} → statement M
 read-input-spec =
     tie.close
     (tie.spec
     Inv-loop
     μ-loop
-    (λ c. omega arith)
+    (λ c. search needs)
+    (λ c. (omega arith, refl))
     (λ c. omega arith)
     (λ c. omega arith)
     (λ c. omega arith)
     (λ c κs. search needs)
     same-length
-    returns
+    (λ c. search needs)
     sub-count
     part-count-start
     part-count-end
     (λ c κs. search needs)
     same-length-2
-    returns-2
+    (λ c. search needs)
     add-n
     loop-less
     loop-again
     (λ c. c .before .loop .inv .1)
-    returns-3)
+    (λ c. search needs))

@@ -5,8 +5,8 @@ use contract.Running.{givenOf, tables, tablesOf}
 use denote.Enum.Laws as Laws
 use denote.Triple.Spec.{tripleOf}
 use denote.Triple.Table.{entered, cited}
-use Rattle.layout.proofs.rows.RowEntry as S
-use Rattle.layout.proofs.rows.RowEntry.Laws as S′
+use Rattle.rows.proofs.RowEntry as S
+use Rattle.rows.proofs.RowEntry.Laws as S′
 use Rattle.view.proofs.Thin.{Callee, thin-meets}
 use Rattle.layout.proofs.index.read_node_entry_at as callee
 use Rattle.layout.proofs.index.read_node_entry_at.Symbol as callee-def

@@ -5,8 +5,8 @@ use contract.Running.{givenOf, tables, tablesOf}
 use denote.Enum.Laws as Laws
 use denote.Triple.Spec.{tripleOf}
 use denote.Triple.Table.{entered, cited}
-use Rattle.layout.proofs.rows.RowEntry as S
-use Rattle.layout.proofs.rows.RowEntry.Laws as S′
+use Rattle.rows.proofs.RowEntry as S
+use Rattle.rows.proofs.RowEntry.Laws as S′
 use Rattle.view.proofs.Through.{Maker, Reader, through-meets}
 use Rattle.view.proofs.view_of.Symbol as make-def
 use Rattle.view.proofs.view_of.Symbol.{name as #make}

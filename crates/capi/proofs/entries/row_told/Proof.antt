@@ -7,8 +7,8 @@ use borrow.Author.Needs.{needs}
 use Rattle.wire.specs.Le.{leAt, isShort}
 use Rattle.wire.proofs.Numbers.{number-whole}
 use Rattle.info.specs.Entry.{decodeOutcome}
-use Rattle.layout.specs.Rows.{rowAt, rowOver}
-use Rattle.layout.proofs.RowLaws.{placed-over, placed-at, row-over}
+use Rattle.rows.specs.Rows.{rowAt, rowOver}
+use Rattle.rows.proofs.RowLaws.{placed-over, placed-at, row-over}
 use Rattle.capi.specs.Rows.{laid, entryRow}
 use Rattle.capi.proofs.EntryLaws.{row-short, row-word}
 use Rattle.capi.proofs.entries.row_told.Statement.{statement}

@@ -4,7 +4,7 @@ use denote.Ref.{now}
 use borrow.Author.Needs.{needs}
 use Rattle.wire.specs.Table.{_>>=_}
 use Rattle.layout.specs.declared.forest.ForestLayout.{ForestLayout}
-use Rattle.resolved.specs.Checks.{childrenOutcome}
+use Rattle.checks.specs.Checks.{childrenOutcome}
 use Rattle.capi.specs.Rows.{laid, noRow}
 use Rattle.capi.specs.Given.{layoutOf}
 use Rattle.capi.specs.Shown.{shownRecord}

@@ -8,9 +8,9 @@ use borrow.Author.Needs.{needs}
 use Rattle.wire.specs.Le.{leAt, isShort, numberAt}
 use Rattle.wire.proofs.Le.{le-slice-below}
 use Rattle.wire.proofs.Numbers.{number-whole}
-use Rattle.layout.specs.Rows.{rowOver}
+use Rattle.rows.specs.Rows.{rowOver}
 use Rattle.layout.specs.Index.{rootAt}
-use Rattle.layout.proofs.RowLaws.{placed-over, placed-at}
+use Rattle.rows.proofs.RowLaws.{placed-over, placed-at}
 use Rattle.layout.proofs.IndexLaws.{no-root, root-over, root-short, root-high, root-found}
 use Rattle.layout.proofs.index.read_procedure_root_at.Statement.{statement}
 use Rattle.layout.proofs.index.read_procedure_root_at.Tie as tie

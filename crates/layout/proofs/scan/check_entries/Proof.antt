@@ -4,7 +4,7 @@ use Prim.Native.Nat.{_<_}
 use mathlib.Core.Path.{_≡_, sym, ap, _∙_}
 use native.Mathlib.Omega.{arith}
 use borrow.Author.Needs.{needs}
-use Rattle.layout.specs.Shown.{shownPass}
+use Rattle.rows.specs.Shown.{shownPass}
 use Rattle.layout.proofs.Entries.{pass-row, entries-refused, entries-differ, entries-pass}
 use Rattle.layout.proofs.scan.check_entries.Statement.{statement}
 use Rattle.layout.proofs.scan.check_entries.Tie as tie

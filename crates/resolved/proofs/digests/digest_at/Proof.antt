@@ -6,8 +6,8 @@ use borrow.Author.Needs.{needs}
 use Rattle.wire.specs.Words.{wordOutcome}
 use Rattle.wire.specs.Shown.{shownCheck, shownWord}
 use Rattle.wire.specs.declared.word.WordCheck.{WordCheck}
-use Rattle.layout.specs.Rows.{rowAt, rowOver}
-use Rattle.layout.proofs.RowLaws.{placed-over, placed-at}
+use Rattle.rows.specs.Rows.{rowAt, rowOver}
+use Rattle.rows.proofs.RowLaws.{placed-over, placed-at}
 use Rattle.resolved.specs.Digests.{digestOf}
 use Rattle.resolved.proofs.DigestLaws.{refused-as, at-over, at-word, at-refused}
 use Rattle.resolved.proofs.digests.digest_at.Statement.{statement}

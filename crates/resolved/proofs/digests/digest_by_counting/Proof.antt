@@ -4,8 +4,8 @@ use mathlib.Core.Path.{_≡_, sym, ap, _∙_}
 use native.Mathlib.Omega.{arith}
 use borrow.Author.Needs.{needs}
 use Rattle.wire.specs.Table.{accepted}
-use Rattle.layout.specs.Rows.{entryPass}
-use Rattle.layout.specs.Shown.{shownRow, shownPass}
+use Rattle.rows.specs.Rows.{entryPass}
+use Rattle.rows.specs.Shown.{shownRow, shownPass}
 use Rattle.resolved.specs.Nodes.{nodeEntry}
 use Rattle.resolved.proofs.SlotLaws.{counted-le}
 use Rattle.resolved.proofs.DigestLaws.{refused-as, counting-index, counting-stops, counting-row, counting-answer}

@@ -3,7 +3,7 @@
 use mathlib.Core.Path.{sym, ap, _∙_}
 use native.Mathlib.Omega.{arith}
 use borrow.Author.Needs.{needs}
-use Rattle.layout.specs.Shown.{shownRow}
+use Rattle.rows.specs.Shown.{shownRow}
 use Rattle.resolved.proofs.DigestLaws.{refused-as, table-index, table-room, table-row, table-answer}
 use Rattle.resolved.proofs.digests.digest_with_table.Statement.{statement}
 use Rattle.resolved.proofs.digests.digest_with_table.Tie as tie

@@ -1,4 +1,4 @@
--- `resolved::digests::is_external` meets its contract: the lowest class is that of the externals.
+-- `resolved::digests::is_external` meets its contract: an External counts as one.
 -- Assumes nothing.
 use Prim.Native.Nat.{ℕ}
 use mathlib.Core.Path.{ap, _∙_}
@@ -11,4 +11,4 @@ use Rattle.resolved.proofs.digests.is_external.Tie as tie
 pub is-external-spec : {M : Type 1} → statement M
 is-external-spec =
     tie.close
-    (tie.spec (λ c κs. search needs) (λ c. ap (λ (k : ℕ). eqb k 0) (c .class-of .ensures) ∙ external-class (c .before .args .entry)))
+    (tie.spec (λ c κs. search needs) (λ c. ap (λ (k : ℕ). eqb k 1) (c .external-one .ensures) ∙ external-class (c .before .args .entry)))

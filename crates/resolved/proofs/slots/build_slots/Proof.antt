@@ -5,7 +5,7 @@ use borrow.Author.Needs.{needs}
 use lib.ListN.{length}
 use Rattle.wire.specs.Table.{accepted, firstMet, checked}
 use Rattle.wire.proofs.Ladder.{ladder}
-use Rattle.layout.specs.Shown.{shownPass}
+use Rattle.rows.specs.Shown.{shownPass}
 use Rattle.resolved.specs.Slots.{tableRules}
 use Rattle.resolved.proofs.SlotLaws.{table-stops, entries-stop, entries-fill, rows-inside}
 use Rattle.resolved.proofs.slots.build_slots.Statement.{statement}

@@ -6,7 +6,7 @@ use native.Mathlib.Omega.{arith}
 use borrow.Author.Needs.{needs}
 use lib.ListN.{length}
 use Rattle.info.specs.Shown.{shownDecoded}
-use Rattle.layout.proofs.Pass.{external-le}
+use Rattle.rows.proofs.Pass.{external-le}
 use Rattle.writer.specs.Inner.{wordsOutcome}
 use Rattle.writer.proofs.Words.{left, left-all, left-refused, left-next, left-none}
 use Rattle.writer.proofs.check.check_words.Statement.{statement}

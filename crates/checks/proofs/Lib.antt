@@ -1,0 +1,4 @@
+pub mod Stages
+pub mod CheckLaws
+pub mod Answers
+pub mod Ordered

@@ -1,0 +1,5 @@
+pub mod Sorted
+pub mod Permuted
+pub mod Heap
+pub mod Keys
+pub mod Duplicates

@@ -1,0 +1,3 @@
+pub mod Sorted
+pub mod Keys
+pub mod Sort

@@ -1,0 +1,13 @@
+-- `page::text::text_len` meets its contract: each answer holds the length.
+-- Assumes nothing.
+use mathlib.Core.Path.{sym, ap}
+use borrow.Author.Needs.{needs}
+use Rattle.page.specs.Shown.{shownText, textLen}
+use Rattle.page.proofs.text.text_len.Statement.{statement}
+use Rattle.page.proofs.text.text_len.Tie as tie
+
+returns-2 : tie.Need-returns-2
+returns-2 c = ap (λ t. textLen (shownText t)) (sym (c .before .t2 .given .1))
+
+pub text-len-spec : {M : Type 1} → statement M
+text-len-spec = tie.close (tie.spec (λ c. search needs) (λ c. search needs) (λ c. search needs) returns-2)

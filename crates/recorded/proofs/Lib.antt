@@ -1,0 +1,4 @@
+pub mod Texts
+pub mod Copies
+pub mod Rows
+pub mod Lines

@@ -1,0 +1,14 @@
+-- `recorded::lists::least` meets its contract.
+-- Assumes nothing.
+use Prim.Native.Nat.{min}
+use borrow.Author.Needs.{needs}
+use native.Mathlib.Omega.{arith}
+use Rattle.recorded.proofs.lists.least.Statement.{statement}
+use Rattle.recorded.proofs.lists.least.Tie as tie
+
+pub least-spec : {M : Type 1} → statement M
+least-spec =
+    tie.close
+    (tie.spec
+    (λ c. search needs)
+    (λ c. search needs))

@@ -1,0 +1,29 @@
+-- `recorded::told::is_told` meets its contract: the row is its first number, the next twelve, and the rest.
+-- Assumes nothing.
+use Rattle.recorded.proofs.Copies.{three-parts}
+use borrow.Author.Needs.{needs}
+use denote.Ref.{now}
+use mathlib.Core.Path.{_≡_, refl, sym, _∙_}
+use native.Mathlib.Omega.{arith}
+use Rattle.recorded.proofs.told.is_told.Statement.{statement}
+use Rattle.recorded.proofs.told.is_told.Tie as tie
+
+pub is-told-spec : {M : Type 1} → statement M
+is-told-spec =
+    tie.close
+    (tie.spec
+    (λ c e. cc)
+    (λ c. search needs)
+    (λ c e. cc)
+    (λ c. search needs)
+    (λ c. search needs)
+    (λ c. search needs)
+    (λ c. search needs)
+    (λ c κs. search needs)
+    (λ c. search needs)
+    (λ c. search needs)
+    (λ c. search needs)
+    (λ c. search needs)
+    (λ c κs. search needs)
+    (λ c e. three-parts _ _ _ _ (c .before .before .before .before .before .before .before .if1 .left) (c .before .before .before .before .before .if2 .left) (c .before .before .before .same-numbers .ensures (c .before .before .if3 .taken)) (c .same-numbers2 .ensures e))
+    (λ c e. cc))

@@ -1,0 +1,60 @@
+-- Rows of a section by their number, and the pass over the entries.
+use Prim.Native.Nat.{ℕ, zero, suc, _+_, _*_, _≤_}
+use mathlib.Core.Path.{_≡_}
+use mathlib.Core.Bool.{Bool}
+use mathlib.Core.List.{List, [], _∷_}
+use lib.Dec.{leb}
+use Rattle.wire.specs.Table.{Rule, rule, Outcome, accepted, pick, firstMet, _>>=_}
+use Rattle.wire.specs.Refusals.{SHORT, OVERFLOW}
+use Rattle.wire.specs.Le.{leAt, isShort, over}
+use Rattle.info.specs.Entry.{entryOf, isExternal, decodeRules}
+use Rattle.info.specs.declared.MastNodeEntry.{MastNodeEntry}
+use Rattle.rows.specs.declared.RowPlace.{RowPlace}
+use Rattle.rows.specs.declared.RowPlace.the-variants.{At, Over}
+use Rattle.rows.specs.declared.Survey.{Survey}
+use Rattle.rows.specs.declared.Survey.the-variants.{Clean, Doubtful}
+
+-- where row i of rows of some size starts, and whether its end is above 2 ^ 64 - 1
+abbrev pub rowAt : ℕ → ℕ → ℕ → ℕ
+rowAt section size i = section + size * i
+
+abbrev pub rowOver : ℕ → ℕ → ℕ → Bool
+rowOver section size i = over (rowAt section size i + size)
+
+abbrev pub rowPlace : ℕ → ℕ → ℕ → RowPlace
+rowPlace section size i = pick (rowOver section size i) Over (At (record { 0 = rowAt section size i }))
+
+-- ---- the entry in row i of the rows of 8 bytes from `first` on
+
+abbrev pub rowWord : List ℕ → ℕ → ℕ → ℕ
+rowWord s first i = leAt s (rowAt first 8 i) 8
+
+-- OVERFLOW, SHORT, TAG, PAYLOAD [the row's number]
+unfoldable pub rowRules : List ℕ → ℕ → ℕ → List Rule
+rowRules s first i =
+    rule OVERFLOW i (rowOver first 8 i)
+    ∷ rule SHORT i (isShort s (rowAt first 8 i) 8)
+    ∷ decodeRules i (rowWord s first i)
+
+unfoldable pub rowOutcome : List ℕ → ℕ → ℕ → Outcome MastNodeEntry
+rowOutcome s first i = firstMet (rowRules s first i) (entryOf (rowWord s first i))
+
+-- ---- the entries from first to last, where `read i` is what row i says: the first refusal, or how many are External
+
+abbrev pub externalOne : MastNodeEntry → ℕ
+externalOne e = pick (isExternal e) 1 0
+
+unfoldable pub entryPass : (ℕ → Outcome MastNodeEntry) → ℕ → Outcome ℕ
+entryPass read zero = accepted 0
+entryPass read (suc n) = entryPass read n >>= (λ externals. read n >>= (λ e. accepted (externals + externalOne e)))
+
+-- ---- inner contracts only: what the loops hand to each other
+
+-- the first i rows have entries, and some of them are External
+abbrev pub Begun : (ℕ → Outcome MastNodeEntry) → ℕ → ℕ → Type 0
+Begun read i externals = (externals ≤ i) × (entryPass read i ≡ accepted externals)
+
+-- what a survey says of the rows from one to another: so many more externals, or nothing
+abbrev pub Sound : Survey → (ℕ → Outcome MastNodeEntry) → ℕ → ℕ → Type 0
+Sound (Clean more) read from to = (before : ℕ) → Begun read from before → Begun read to (before + more)
+Sound Doubtful read from to = Unit {0}
