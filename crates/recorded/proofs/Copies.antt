@@ -6,7 +6,7 @@ use mathlib.Core.Logic.{_⊎_, ⊎-elim}
 use Prim.Native.Nat.{ℕ, _+_, _-_, _≤_, _<_, min}
 use native.Mathlib.Omega.{arith}
 use native.Mathlib.Numerals.{add-one}
-use lib.ListN.{length, getD, take, drop, set, length-take, length-drop, length-set, take-append-drop, drop-of-length-le}
+use lib.ListN.{length, getD, take, drop, set, length-drop, length-set, take-append-drop, drop-of-length-le}
 use lib.Seq.{length-take-le, take-suc, take-suc-set, take-all, take-length, drop-cons, drop-drop}
 use Rattle.wire.proofs.Counts.{lt-or-ge}
 use Rattle.io.specs.Counts.{Counts}

@@ -8,7 +8,7 @@ use native.Mathlib.Omega.{arith}
 use native.Mathlib.Nat.{add-sub-cancel-left}
 use borrow.Author.Tests.{eq-eqb}
 use lib.Dec.{eqb}
-use lib.ListN.{length, getD, take, drop, length-drop, length-take}
+use lib.ListN.{length, getD, take, drop, length-drop}
 use lib.Seq.{take-all, drop-drop}
 use Rattle.recorded.specs.Text.{before, past, numbersIn, onFirst, linesIn}
 use Rattle.recorded.specs.Calls.{callRow}
@@ -19,19 +19,28 @@ use Rattle.recorded.specs.Inner.{CutAt}
 pub rest-of : (n : ℕ) (l : List ℕ) → take (length l - n) (drop n l) ≡ drop n l
 rest-of n l = take-all (length l - n) (drop n l) (rw (length-drop n l) (omega arith))
 
--- the part `&text[at..]`, cut at its first mark
+-- the part `&text[at..]`, cut at its first mark: what is before the mark, and what is past it, lie inside the text
+pub record Inside (text : List ℕ) (at end rest : ℕ) : Type 0 where
+  pub part : at + end ≤ length text
+  pub next : at + rest ≤ length text
+  pub later : 0 < rest
+  pub ordered : end ≤ rest
+
 module _ (text : List ℕ) (at : ℕ) (p : at < length text) {mark end rest : ℕ} (cut : CutAt (take (length text - at) (drop at text)) mark end rest) where
-  pub cut-on : CutAt (drop at text) mark end rest
+  some-left : 0 < length (drop at text)
+  some-left = rw (length-drop at text) (omega arith)
+
+  cut-on : CutAt (drop at text) mark end rest
   cut-on = rw (rest-of at text) at cut
 
-  pub part-inside : at + end ≤ length text
-  part-inside = omega (arith, cut-on .inside, length-drop at text)
-
-  pub next-inside : at + rest ≤ length text
-  next-inside = omega (arith, cut-on .within, length-drop at text)
-
-  pub next-later : 0 < rest
-  next-later = let q : 0 < length (drop at text) = rw (length-drop at text) (omega arith) in cut-on .goes q
+  pub inside : Inside text at end rest
+  inside =
+      record {
+        part = omega (arith, cut-on .inside, length-drop at text);
+        next = omega (arith, cut-on .within, length-drop at text);
+        later = cut-on .goes some-left;
+        ordered = cut-on .later;
+      }
 
 -- ---- the first line
 
@@ -89,8 +98,7 @@ module _ {text file : List ℕ} {n at agreed : ℕ} (h : Tallied text file n at 
 
   lines : linesIn (drop at text) ≡ line ∷ linesIn (drop (at + rest) text)
   lines =
-      let q : 0 < length (drop at text) = rw (length-drop at text) (omega arith) in
-      lines-cut (drop at text) end rest q (cut-on text at p cut) ∙ ap (λ (l : List ℕ). line ∷ linesIn l) (drop-drop rest at text)
+      lines-cut (drop at text) end rest (some-left text at p cut) (cut-on text at p cut) ∙ ap (λ (l : List ℕ). line ∷ linesIn l) (drop-drop rest at text)
 
   file-left : isFile line ≡ true → agreedIn (take n file) (linesIn (drop at text)) ≡ agreedIn (numbersIn (drop 1 line)) (linesIn (drop (at + rest) text))
   unfolding agreedIn
@@ -111,11 +119,11 @@ module _ {text file : List ℕ} {n at agreed : ℕ} (h : Tallied text file n at 
     tallied-file t file′ n′ r e =
         let f : isFile line ≡ true = rw as-line at (sym said ∙ t) in
         let g : take n′ file′ ≡ numbersIn (drop 1 line) = rw as-line at e in
-        record { within = next-inside text at p cut; room = r; left = rw g (rw (file-left f) at (h .left)) }
+        record { within = inside text at p cut .next; room = r; left = rw g (rw (file-left f) at (h .left)) }
 
     pub tallied-case : x ≡ false → agrees (take n file) (take (at + end - at) (drop at text)) ≡ true → Tallied text file n (at + rest) (agreed + 1)
     tallied-case t a =
         let f : isFile line ≡ false = rw as-line at (sym said ∙ t) in
         let g : agrees (take n file) line ≡ true = rw as-line at a in
         let l = rw (case-left f, g) at (h .left) in
-        record { within = next-inside text at p cut; room = h .room; left = omega arith }
+        record { within = inside text at p cut .next; room = h .room; left = omega arith }

@@ -1,6 +1,6 @@
 -- What a call says over blank places is the row that is recorded of it.
 -- Assumes nothing.
-use mathlib.Core.Path.{_≡_, refl, sym, _∙_}
+use mathlib.Core.Path.{_≡_, _∙_}
 use mathlib.Core.Bool.{true, false}
 use mathlib.Core.List.{List, _∷_, _++_}
 use Prim.Native.Nat.{ℕ, _%_}
@@ -9,7 +9,6 @@ use lib.ListN.{length, getD}
 use lib.Seq.{sets}
 use Rattle.wire.specs.Table.{Outcome}
 use Rattle.capi.specs.Rows.{numberIn, rowIn, lacking, answerNumber, answered, unless}
-use Rattle.writer.specs.Parts.{Parts}
 use Rattle.writer.specs.Shown.{lent}
 use Rattle.recorded.specs.Calls.{blank, between, partsGiven}
 

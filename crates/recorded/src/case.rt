@@ -8,7 +8,7 @@ use crate::text::numbers_of;
 use crate::written::bytes_agree;
 ghost use mathlib.Core.Path.{_≡_};
 ghost use mathlib.Core.Bool.{true};
-ghost use lib.ListN.{length, getD, drop};
+ghost use lib.ListN.{getD, drop};
 ghost use Rattle.recorded.specs.Text.{before, past, numbersIn};
 ghost use Rattle.recorded.specs.Calls.{callRow};
 ghost use Rattle.recorded.specs.Agreed.{agrees};

@@ -1,7 +1,6 @@
 -- `recorded::case::call_agrees` meets its contract, by that of the function that makes the call.
 -- Assumes nothing.
 use borrow.Author.Needs.{needs}
-use mathlib.Core.Path.{_≡_, refl, sym, ap, _∙_}
 use Rattle.recorded.proofs.case.call_agrees.Statement.{statement}
 use Rattle.recorded.proofs.case.call_agrees.Tie as tie
 

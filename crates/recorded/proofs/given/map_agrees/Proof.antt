@@ -8,46 +8,46 @@ use Rattle.recorded.specs.Calls.{rowOf, callRow}
 use borrow.Author.Needs.{needs}
 use denote.Ref.{now}
 use lib.ListN.{length, getD}
-use mathlib.Core.Path.{_≡_, refl, sym, ap, _∙_}
+use mathlib.Core.Path.{refl, ap, _∙_}
 use Rattle.recorded.proofs.given.map_agrees.Statement.{statement}
 use Rattle.recorded.proofs.given.map_agrees.Tie as tie
 
 returns : tie.Need-returns
 unfolding callRow rowOf
 returns c e =
-    let k = c .before .before .before .before .before .before .before .before .before .before .before .before .before .before .before .before .args in
+    let v = c .before .before .before .before .before .before in
+    let m = v .before .before .before .before in
+    let k = m .before .before .before .before .before .before .args in
     let s = now (k .s) in
     let a = now (k .a) in
+    let x = v .before .before .before .number in
     let keys = now (k .keys) in
-    let z = c .before .before .before .before .before .before .before .before .before .number in
-    let o = walkCall (length keys) s (getD a 0 0) in
-    let same : walkCall (length keys) s (z .result) ≡ o = rw (z .ensures) in
-    let left = lent-told 2 refl (c .before .before .before .before .before .before .before .before .before .before .before .blank .ensures) keys (c .before .before .before .before .before .before .vk-walk .ensures .1 .1) ∙ ap (λ (x : ℕ). keyTable s x keys) (z .ensures) in
-    rw (c .before .before .before .before .before .before .before .before .before .before .match .keys1) (row-told 2 refl (c .before .before .before .before .before .before .before .before .before .before .before .blank .ensures) o same (c .before .before .before .before .before .before .vk-walk .ensures .0) (c .before .before .before .before .before .before .vk-walk .ensures .1 .0) left (c .is-told .ensures e))
+    let left = lent-told 2 refl (m .before .blank .ensures) keys (v .vk-walk .ensures .1 .1) ∙ ap (λ (n : ℕ). keyTable s n keys) (x .ensures) in
+    rw (m .match .keys1) (row-told 2 refl (m .before .blank .ensures) (walkCall (length keys) s (getD a 0 0)) (ap (walkCall (length keys) s) (x .ensures)) (v .vk-walk .ensures .0) (v .vk-walk .ensures .1 .0) left (c .is-told .ensures e))
 
 returns-2 : tie.Need-returns-2
 unfolding callRow rowOf
 returns-2 c e =
-    let k = c .before .before .before .before .before .before .before .before .before .before .before .before .before .before .args in
+    let v = c .before .before .before .before in
+    let m = v .before .before .before .before in
+    let k = m .before .before .before .before .before .before .args in
     let s = now (k .s) in
     let a = now (k .a) in
+    let x = v .before .before .number2 in
     let keys = now (k .keys) in
-    let z = c .before .before .before .before .before .before .number2 in
-    let o = lookupCall s keys (getD a 4 0) a in
-    let same : lookupCall s keys (z .result) a ≡ o = rw (z .ensures) in
-    rw (c .before .before .before .before .before .before .before .before .match .keys2) (row-told 4 refl (c .before .before .before .before .before .before .before .before .before .blank .ensures) o same (c .before .before .before .before .vk-lookup .ensures .0) (c .before .before .before .before .vk-lookup .ensures .1) refl (c .is-told2 .ensures e))
+    rw (m .match .keys2) (row-told 4 refl (m .before .blank .ensures) (lookupCall s keys (getD a 4 0) a) (ap (λ (n : ℕ). lookupCall s keys n a) (x .ensures)) (v .vk-lookup .ensures .0) (v .vk-lookup .ensures .1) refl (c .is-told2 .ensures e))
 
 returns-3 : tie.Need-returns-3
 unfolding callRow rowOf
 returns-3 c e =
-    let k = c .before .before .before .before .before .before .before .before .before .before .before .before .before .before .args in
+    let v = c .before .before .before .before in
+    let m = v .before .before .before .before in
+    let k = m .before .before .before .before .before .before .args in
     let s = now (k .s) in
     let a = now (k .a) in
+    let x = v .before .before .number3 in
     let keys = now (k .keys) in
-    let z = c .before .before .before .before .before .before .number3 in
-    let o = valuesCall s keys (getD a 4 0) a in
-    let same : valuesCall s keys (z .result) a ≡ o = rw (z .ensures) in
-    rw (c .before .before .before .before .before .before .before .before .match .keys3) (row-told 2 refl (c .before .before .before .before .before .before .before .before .before .blank .ensures) o same (c .before .before .before .before .vk-values .ensures .0) (c .before .before .before .before .vk-values .ensures .1) refl (c .is-told3 .ensures e))
+    rw (m .match .keys3) (row-told 2 refl (m .before .blank .ensures) (valuesCall s keys (getD a 4 0) a) (ap (λ (n : ℕ). valuesCall s keys n a) (x .ensures)) (v .vk-values .ensures .0) (v .vk-values .ensures .1) refl (c .is-told3 .ensures e))
 
 pub map-agrees-spec : {M : Type 1} → statement M
 map-agrees-spec =

@@ -1,8 +1,6 @@
 -- `recorded::lists::least` meets its contract.
 -- Assumes nothing.
-use Prim.Native.Nat.{min}
 use borrow.Author.Needs.{needs}
-use native.Mathlib.Omega.{arith}
 use Rattle.recorded.proofs.lists.least.Statement.{statement}
 use Rattle.recorded.proofs.lists.least.Tie as tie
 

@@ -3,8 +3,6 @@
 use Rattle.recorded.proofs.Copies.{between-inside}
 use borrow.Author.Needs.{needs}
 use denote.Ref.{now}
-use mathlib.Core.Path.{_≡_, refl, sym, _∙_}
-use native.Mathlib.Omega.{arith}
 use Rattle.recorded.proofs.lists.numbers_between.Statement.{statement}
 use Rattle.recorded.proofs.lists.numbers_between.Tie as tie
 

@@ -3,10 +3,7 @@
 use Prim.Native.Nat.{_-_}
 use Rattle.recorded.proofs.Copies.{Alike, alike, alike-more, alike-all, starts-same}
 use borrow.Author.Needs.{needs}
-use denote.Ref.{now}
 use lib.ListN.{length}
-use mathlib.Core.Path.{_≡_, refl, sym, _∙_}
-use native.Mathlib.Omega.{arith}
 use Rattle.recorded.proofs.lists.same_numbers.Statement.{statement}
 use Rattle.recorded.proofs.lists.same_numbers.Tie as tie
 

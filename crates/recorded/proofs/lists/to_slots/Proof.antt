@@ -4,10 +4,8 @@ use Prim.Native.Nat.{_-_}
 use Rattle.recorded.proofs.Copies.{Alike, alike, alike-stored, alike-all}
 use Rattle.recorded.proofs.Rows.{no}
 use borrow.Author.Needs.{needs}
-use denote.Ref.{now}
 use lib.ListN.{length, length-set}
-use mathlib.Core.Path.{_≡_, refl, sym, _∙_}
-use native.Mathlib.Omega.{arith}
+use mathlib.Core.Path.{_≡_, refl}
 use Rattle.recorded.proofs.lists.to_slots.Statement.{statement}
 use Rattle.recorded.proofs.lists.to_slots.Tie as tie
 

@@ -1,11 +1,15 @@
 -- `recorded::slots::slots_agree` meets its contract: the slots are the lent numbers.
 -- Assumes nothing.
 use borrow.Author.Needs.{needs}
-use denote.Ref.{now}
-use mathlib.Core.Path.{_≡_, refl, sym, ap, _∙_}
-use native.Mathlib.Omega.{arith}
+use mathlib.Core.Path.{_∙_}
 use Rattle.recorded.proofs.slots.slots_agree.Statement.{statement}
 use Rattle.recorded.proofs.slots.slots_agree.Tie as tie
+
+-- the table starts with the lent numbers
+returns : tie.Need-returns
+returns c e =
+    let n = c .before .before .before in
+    c .before .table-agrees .ensures e ∙ rw (n .before .before .to-slots .ensures (n .if1 .taken) .is)
 
 pub slots-agree-spec : {M : Type 1} → statement M
 slots-agree-spec =
@@ -16,5 +20,5 @@ slots-agree-spec =
     (λ c. c .before .before .to-slots .ensures (c .if1 .taken) .room)
     (λ c. c .before .before .before .to-slots .ensures (c .before .if1 .taken) .long)
     (λ c κs. search needs)
-    (λ c e. c .before .table-agrees .ensures e ∙ rw (c .before .before .before .before .before .to-slots .ensures (c .before .before .before .if1 .taken) .is))
+    returns
     (λ c e. cc))

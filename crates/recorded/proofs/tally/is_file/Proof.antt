@@ -1,15 +1,14 @@
--- `recorded::tally::is_file` meets its contract.
+-- `recorded::tally::is_file` meets its contract: an empty line begins with no byte.
 -- Assumes nothing.
 use Rattle.recorded.specs.Agreed.{isFile}
 use borrow.Author.Needs.{needs}
 use lib.ListN.{List·getD-eq-default}
-use mathlib.Core.Path.{_≡_, refl, sym, ap, _∙_}
 use Rattle.recorded.proofs.tally.is_file.Statement.{statement}
 use Rattle.recorded.proofs.tally.is_file.Tie as tie
 
 returns : tie.Need-returns
 unfolding isFile
-returns c = let a = c .before .args in rw (List·getD-eq-default (a .line .now) 0 {n = 0} (search needs))
+returns c = rw (List·getD-eq-default (c .before .args .line .now) 0 {n = 0} (search needs))
 
 returns-2 : tie.Need-returns-2
 unfolding isFile

@@ -5,16 +5,17 @@ use Rattle.recorded.proofs.Lines.{rest-of}
 use Rattle.recorded.specs.Text.{numbersIn}
 use borrow.Author.Needs.{needs}
 use denote.Ref.{now}
-use mathlib.Core.Path.{_≡_, refl, sym, ap, _∙_}
-use native.Mathlib.Omega.{arith}
+use mathlib.Core.Path.{ap, _∙_}
 use Rattle.recorded.proofs.tally.take_file.Statement.{statement}
 use Rattle.recorded.proofs.tally.take_file.Tie as tie
 
 returns-2 : tie.Need-returns-2
 returns-2 c =
-    let n = c .before .before .before .before .before .before .before .before .numbers-of in
-    let h = starts-count _ _ _ (n .ensures .0) (c .before .before .before .to-bytes .ensures (c .if3 .taken)) in
-    (h .0, λ e. h .1 ∙ n .ensures .1 (c .before .before .before .before .before .before .if2 .taken) ∙ ap numbersIn (rest-of 1 (now (c .before .before .before .before .before .before .before .before .before .before .before .before .before .before .args .line))))
+    let t = c .before .before .before in
+    let n = t .before .before .before .before .before in
+    let k = n .before .before .before .before .before .before .args in
+    let h = starts-count _ _ _ (n .numbers-of .ensures .0) (t .to-bytes .ensures (c .if3 .taken)) in
+    (h .0, λ e. h .1 ∙ n .numbers-of .ensures .1 (t .before .before .before .if2 .taken) ∙ ap numbersIn (rest-of 1 (now (k .line))))
 
 pub take-file-spec : {M : Type 1} → statement M
 take-file-spec =

@@ -3,9 +3,7 @@
 use Prim.Native.Nat.{_-_}
 use Rattle.recorded.proofs.Texts.{Uncut, uncut, uncut-more, cut-here, cut-nowhere}
 use borrow.Author.Needs.{needs}
-use denote.Ref.{now}
 use lib.ListN.{length}
-use native.Mathlib.Omega.{arith}
 use Rattle.recorded.proofs.text.cut.Statement.{statement}
 use Rattle.recorded.proofs.text.cut.Tie as tie
 

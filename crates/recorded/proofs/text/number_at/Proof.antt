@@ -4,10 +4,8 @@ use Prim.Native.Nat.{_-_}
 use Rattle.recorded.proofs.Rows.{no}
 use Rattle.recorded.proofs.Texts.{Reading, reading, read-digit, read-end}
 use borrow.Author.Needs.{needs}
-use denote.Ref.{now}
 use lib.ListN.{length}
-use mathlib.Core.Path.{_≡_, refl, sym, _∙_}
-use native.Mathlib.Omega.{arith}
+use mathlib.Core.Path.{refl}
 use Rattle.recorded.proofs.text.number_at.Statement.{statement}
 use Rattle.recorded.proofs.text.number_at.Tie as tie
 

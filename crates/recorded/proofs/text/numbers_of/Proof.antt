@@ -1,12 +1,11 @@
 -- `recorded::text::numbers_of` meets its contract: the numbers before `at` stand in `out`.
 -- Assumes nothing.
-use Prim.Native.Nat.{_-_, _≤_}
+use Prim.Native.Nat.{_-_}
 use Rattle.recorded.proofs.Texts.{Stored, stored, stored-more, stored-all}
 use borrow.Author.Needs.{needs}
-use denote.Ref.{now}
 use lib.ListN.{length, length-set}
 use lib.Seq.{length-take-le}
-use mathlib.Core.Path.{_≡_, refl, sym, _∙_}
+use mathlib.Core.Path.{_≡_, sym}
 use native.Mathlib.Omega.{arith}
 use Rattle.recorded.proofs.text.numbers_of.Statement.{statement}
 use Rattle.recorded.proofs.text.numbers_of.Tie as tie

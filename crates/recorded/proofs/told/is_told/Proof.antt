@@ -2,9 +2,6 @@
 -- Assumes nothing.
 use Rattle.recorded.proofs.Copies.{three-parts}
 use borrow.Author.Needs.{needs}
-use denote.Ref.{now}
-use mathlib.Core.Path.{_≡_, refl, sym, _∙_}
-use native.Mathlib.Omega.{arith}
 use Rattle.recorded.proofs.told.is_told.Statement.{statement}
 use Rattle.recorded.proofs.told.is_told.Tie as tie
 

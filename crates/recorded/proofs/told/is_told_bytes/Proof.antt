@@ -1,9 +1,7 @@
 -- `recorded::told::is_told_bytes` meets its contract: the widened numbers are the lent ones.
 -- Assumes nothing.
 use borrow.Author.Needs.{needs}
-use denote.Ref.{now}
-use mathlib.Core.Path.{_≡_, refl, sym, _∙_}
-use native.Mathlib.Omega.{arith}
+use mathlib.Core.Path.{_∙_}
 use Rattle.recorded.proofs.told.is_told_bytes.Statement.{statement}
 use Rattle.recorded.proofs.told.is_told_bytes.Tie as tie
 
