@@ -13,6 +13,9 @@
 #define vk_slots old_vk_slots
 #define vk_entry old_vk_entry
 #define vk_digest_with_table old_vk_digest_with_table
+#define vk_children old_vk_children
+#define vk_order old_vk_order
+#define vk_strict old_vk_strict
 #define vk_walk old_vk_walk
 #define vk_lookup old_vk_lookup
 #define vk_write old_vk_write
@@ -21,6 +24,9 @@
 #undef vk_slots
 #undef vk_entry
 #undef vk_digest_with_table
+#undef vk_children
+#undef vk_order
+#undef vk_strict
 #undef vk_walk
 #undef vk_lookup
 #undef vk_write
@@ -33,17 +39,21 @@ struct build {
     __typeof__(&vk_slots) slots;
     __typeof__(&vk_entry) entry;
     __typeof__(&vk_digest_with_table) digest;
+    __typeof__(&vk_children) children;
+    __typeof__(&vk_order) order;
+    __typeof__(&vk_strict) strict;
     __typeof__(&vk_walk) walk;
     __typeof__(&vk_lookup) lookup;
     __typeof__(&vk_write) write;
 };
 
 static const struct build builds[2] = {
-    {old_vk_scan, old_vk_slots, old_vk_entry, old_vk_digest_with_table, old_vk_walk, old_vk_lookup, old_vk_write},
-    {vk_scan, vk_slots, vk_entry, vk_digest_with_table, vk_walk, vk_lookup, vk_write},
+    {old_vk_scan, old_vk_slots, old_vk_entry, old_vk_digest_with_table, old_vk_children, old_vk_order, old_vk_strict, old_vk_walk, old_vk_lookup, old_vk_write},
+    {vk_scan, vk_slots, vk_entry, vk_digest_with_table, vk_children, vk_order, vk_strict, vk_walk, vk_lookup, vk_write},
 };
 
-enum order { NO_MAP, RISING, FALLING, SHUFFLED };
+// nodes in the order of their classes, or of all kinds in any order, and no map; or a map
+enum order { NO_MAP, MIXED, RISING, FALLING, SHUFFLED };
 
 static const uint64_t facts[10] = {'M', 'A', 'S', 'T', 0, 0, 1, 1, 0xfe, 1 << 30};
 static uint64_t words[MOST], keys[4 * MOST], lengths[MOST], values[3 * MOST], offsets[MOST], layout[12], row[12];
@@ -65,8 +75,12 @@ static void must(uint64_t refusal) {
     }
 }
 
-// A tenth External, half of them Block, the rest Join.
-static uint64_t word(size_t i, size_t n) {
+// A tenth External, half of them Block, the rest Join; or any of the nine kinds.
+static uint64_t word(size_t i, size_t n, enum order order) {
+    if (order == MIXED) {
+        uint64_t kind = i ? number() % 9 : 8;
+        return kind << 60 | (kind < 2 ? (uint64_t)(i / 2) << 30 | i / 3 : kind < 6 ? i / 2 : 0);
+    }
     if (i * 10 < n) return 8ull << 60;
     if (i * 10 < 6 * n) return 3ull << 60 | 24 * i;
     return (uint64_t)(i / 2) << 30 | i / 3;
@@ -80,10 +94,10 @@ static void write_file(const struct build *b, uint8_t *to) {
 // A file of n nodes and no map, or of a few nodes and a map of n entries. The writer is given rising keys; the others are put into its
 // file, since it holds them against all earlier ones.
 static void make(size_t n, enum order order) {
-    nodes = order == NO_MAP ? n : 16;
-    entries = order == NO_MAP ? 0 : n;
+    nodes = order <= MIXED ? n : 16;
+    entries = order <= MIXED ? 0 : n;
     externals = held = 0;
-    for (size_t i = 0; i < nodes; i++) externals += (words[i] = word(i, nodes)) >> 60 == 8;
+    for (size_t i = 0; i < nodes; i++) externals += (words[i] = word(i, nodes, order)) >> 60 == 8;
     for (size_t i = 0; i < entries; i++) {
         keys[4 * i] = (uint64_t)i << 40;
         held += lengths[i] = number() % 3;
@@ -103,6 +117,9 @@ static void make(size_t n, enum order order) {
 
 static void scan(const struct build *b) { must(b->scan(file, file_len, facts, 10, 1, 0, 0, row, 12)); }
 static void slots(const struct build *b) { must(b->slots(file, file_len, layout, 12, 0, 0, table, nodes, row, 12)); }
+static void children(const struct build *b) { must(b->children(file, file_len, layout, 12, row, 12)); }
+static void in_order(const struct build *b) { must(b->order(file, file_len, layout, 12, row, 12)); }
+static void strict(const struct build *b) { must(b->strict(file, file_len, layout, 12, row, 12)); }
 static void walk(const struct build *b) { must(b->walk(file, file_len, layout[VK_LAYOUT_ADVICE_MAP_OFFSET], offsets, entries, row, 12)); }
 static void written(const struct build *b) { write_file(b, out); }
 
@@ -128,6 +145,8 @@ static const struct {
     enum order order;
 } operations[] = {
     {"scan", scan, NO_MAP},          {"slots", slots, NO_MAP},         {"entry", entry, NO_MAP},   {"digest", digest, NO_MAP},
+    {"children", children, NO_MAP},  {"children, mixed", children, MIXED}, {"order", in_order, NO_MAP}, {"strict", strict, NO_MAP},
+    {"strict, mixed", strict, MIXED}, {"scan, mixed", scan, MIXED},     {"entry, mixed", entry, MIXED},
     {"write", written, NO_MAP},      {"walk, rising", walk, RISING},   {"lookup", lookup, RISING}, {"write, map", written, RISING},
     {"walk, falling", walk, FALLING}, {"walk, shuffled", walk, SHUFFLED},
 };

@@ -2,15 +2,17 @@
 """check.py [ROOT]: holds docs/SPEC-MAP.md to the files that it names. ROOT is the repository; by default the one that this file stands in.
 
 1. What a row names is there: the path, and the name in it.
-   .antt      a definition or theorem: `pub NAME :`, `abbrev pub`, `unfoldable pub`, `pub record`, `pub data`, or a case of such data
+   .antt      a definition or theorem: `pub NAME :`, `abbrev pub`, `unfoldable pub`, `pub record`, `pub data`, or a case of such data; a field
+              of a record as RECORD.FIELD
    .rt        `fn`, `struct`, `enum` or `const` NAME
-   .md        a heading NAME, or the item NAME of a numbered list
+   .md        a heading NAME, or an item that begins with **NAME**, as a decision does with its id
    any other  the text NAME
 2. What a promise cites has a row among the definitions. Cited are, of a public function, the names in its `ensures` that come from specs/; of
    the theorems in crates/promises/proofs, the names in what they state that come from specs/, or from proofs/ where they are definitions.
 3. Row numbers among the definitions are rows of the sentences; a section has all its rows, in order, but for those that ask for nothing; a
    definition that a sentence's row names has that row beside it; and open points and rows name each other.
-4. Every public function has an `ensures` and no `requires`, and a law NAME-one or NAME-leaves in Tight.antt of its crate or of promises.
+4. Every public function has an `ensures` and no `requires`. (tests/pages/check.py looks for its laws.)
+5. No decision's id stands twice, and an id that a file names after DECISIONS.md is one.
 
 Rows to come are not held to 1 before their name is there; then they count as definitions. The last line is `N rows, M wrong`, with status 0
 where M is 0.
@@ -46,13 +48,16 @@ def blocks(lines):
 
 
 def antt_names(path):
-    """Name to kind: `definition`, `theorem` or `case`."""
-    names = {}
+    """Name to kind: `definition`, `theorem`, `case`, or `field` of a record as RECORD.FIELD."""
+    names, record = {}, None
     for line, inside in blocks(path.read_text().splitlines()):
         bare = line.strip()
         m = re.match(r"(abbrev |unfoldable )?pub (record |data )?([^\s:(){}]+)", bare)
         if m and not inside and m.group(3) != "mod":
             names[m.group(3)] = "definition" if m.group(1) or m.group(2) else "theorem"
+            record = m.group(3)
+        elif m and inside == "record":
+            names[f"{record}.{m.group(3)}"] = "field"
         m = re.match(r"([^\s:(){}]+) :", bare)
         if m and inside == "data":
             names[m.group(1)] = "case"
@@ -65,7 +70,7 @@ def rt_names(path):
 
 def md_names(path):
     text = path.read_text()
-    return set(re.findall(r"^#+ (.+?)\s*$", text, re.M)) | set(re.findall(r"^(\d+)\. ", text, re.M))
+    return set(re.findall(r"^#+ (.+?)\s*$", text, re.M)) | set(re.findall(r"^- \*\*(\S+)\*\* ", text, re.M))
 
 
 def is_there(path, name):
@@ -209,14 +214,6 @@ def promised():
     return found, functions, files_read
 
 
-def has_law(crate, name):
-    """A law of the function in Tight, by its own name; of one that takes or makes a view, by `view-` and its name."""
-    law = name.replace("_", "-")
-    laws = set(antt_names(ROOT / "crates/promises/proofs/Tight.antt"))
-    owned = [f"view-{law}-one", f"{law}-one"] if crate == "view" else [f"{law}-one", f"{law}-leaves"]
-    return any(x in laws for x in owned)
-
-
 # ---- the map
 
 def tables(text):
@@ -272,6 +269,28 @@ def row_numbers(cell):
         section = m.group(1) or section
         for n in range(int(m.group(2)), int(m.group(3) or m.group(2)) + 1):
             yield f"{section} {n}"
+
+
+# ---- the decisions
+
+ID = r"[a-z]+-\d+"
+CITED = re.compile(rf"DECISIONS\.md`?,? ({ID}(?:(?:, | and | to ){ID})*)")
+TEXT = {".md", ".rt", ".antt", ".py", ".sh", ".rs", ".h", ".c", ".edit", ".txt"}
+
+
+def hold_decisions():
+    ids = re.findall(rf"^- \*\*({ID})\*\* ", (ROOT / "docs/DECISIONS.md").read_text(), re.M)
+    for one in sorted({x for x in ids if ids.count(x) > 1}):
+        say(f"docs/DECISIONS.md: {one} stands twice")
+    files = [f for top in ("docs", "crates", "tests", "rust", "include", "examples", "tools", "bench") for f in sorted((ROOT / top).glob("**/*"))]
+    for file in [ROOT / "README.md", *files]:
+        if file.suffix not in TEXT or "target" in file.parts:
+            continue
+        for named in CITED.findall(file.read_text(errors="replace")):
+            for one in re.findall(ID, named):
+                if one not in ids:
+                    say(f"{file.relative_to(ROOT)}: docs/DECISIONS.md has no {one}")
+    return len(ids)
 
 
 def main():
@@ -342,10 +361,9 @@ def main():
             say(f"{path} {name}: nothing is said of its result")
         if list(clauses(contract, "requires")):
             say(f"{path} {name}: something is asked of the caller")
-        if not has_law(path.parts[1], name):
-            say(f"{path} {name}: no law says that its results are equal")
 
-    print(f"{len(sentences)} sentences, {len(serves)} definitions, {waiting} to come, {len(points)} points open")
+    decisions = hold_decisions()
+    print(f"{len(sentences)} sentences, {len(serves)} definitions, {waiting} to come, {len(points)} points open, {decisions} decisions")
     print(f"{functions} public functions and {files_read} files of theorems cite {len(found)} definitions")
     print(f"{len(sentences) + len(serves)} rows, {len(wrong)} wrong")
     sys.exit(1 if wrong else 0)

@@ -1,8 +1,8 @@
 #!/usr/bin/env python3
-"""try.py [CRATE...]: tries the wrong programs of list.txt (of the named crates, or all); the prover must refuse each, for a fact that fails.
+"""try.py [CRATE...]: tries the wrong answers of list.txt (of the named crates, or all); the prover must refuse each, for a fact that fails.
 
-The repository is copied to a temporary folder, and only the copy is changed. Each crate is proved as it is, then with one wrong program after
-the other, then as it is again. `rt` must be on the path. A wrong program counts as refused where the prover ends with `logic=not-proved`, says
+The repository is copied to a temporary folder, and only the copy is changed. Each crate is proved as it is, then with one wrong answer after
+the other, then as it is again. `rt` must be on the path. A wrong answer counts as refused where the prover ends with `logic=not-proved`, says
 of the public function that it is not proved, and its first complaint is about a fact and not about the proof's shape (a name or a field that
 is no longer there). A line for each; the last is `N tried, M not refused`, with status 0 where M is 0.
 """

@@ -5,8 +5,8 @@
 -- Assumes nothing.
 use mathlib.Core.Path.{_≡_, refl, sym, ap, _∙_}
 use mathlib.Core.Bool.{Bool, true, false, cond, _||_}
-use mathlib.Core.List.{List, [], _∷_, _++_, map}
-use mathlib.Core.Logic.{_⊎_, inl, inr, ⊎-elim, _↔_}
+use mathlib.Core.List.{List, [], _∷_, _++_}
+use mathlib.Core.Logic.{inl, inr, ⊎-elim, _↔_}
 use Prim.Native.Nat.{ℕ, zero, suc, _+_, _-_, _/_, _<_, _≤_}
 use native.Mathlib.Decide.{ℕ-discrete, decLt}
 use native.Mathlib.Omega.{arith}
@@ -23,7 +23,7 @@ use Rattle.wire.proofs.Words.{word-whole, order-above, order-same}
 use Rattle.keys.specs.Sorted.{sorted}
 use Rattle.keys.specs.Keys.{isSame, sameKey, seenKey, keyLess}
 use Rattle.keys.specs.Sort.{count, stall, sameAt, earlier, leastRepeat, Ascending, firstDuplicate}
-use Rattle.advice.specs.Walk.{size, valuesAt, nextEntry, walkRules, walkEnd, keyOffsets, Advice, walkShown, shownKeys, Walked, walked, entryCount, firstEntry, mapRules, walkOutcome, keyTable, Risen}
+use Rattle.advice.specs.Walk.{size, valuesAt, nextEntry, walkRules, walkEnd, keyOffsets, walkShown, shownKeys, Walked, walked, entryCount, firstEntry, mapRules, walkOutcome, keyTable, Risen}
 use Rattle.advice.specs.Lookup.{Halved, met, missing, byOrder, halving, found, absent, foundRules, foundOutcome, lookupOutcome}
 use Rattle.keys.specs.declared.sort.Duplicate.{Duplicate}
 use Rattle.keys.specs.declared.sort.Duplicate.the-variants.{At, Nothing}
@@ -198,7 +198,7 @@ module _ (s : List ℕ) (at : ℕ) (t₀ : List ℕ) (w : Walked) (taken : walkO
   abbrev Offsets : List ℕ
   Offsets = keyOffsets s (firstEntry s at) (w .entries)
 
-  rules-unmet : noneMet (walkRules (length t₀) s (firstEntry s at) (w .entries) [])
+  pub rules-unmet : noneMet (walkRules (length t₀) s (firstEntry s at) (w .entries) [])
   unfolding walkOutcome mapRules
   rules-unmet =
       let k = accepted-none (mapRules s at (length t₀)) (walked s at) w taken in

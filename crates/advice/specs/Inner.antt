@@ -18,8 +18,8 @@ use Rattle.advice.specs.declared.walk.Stop.the-variants as stop
 use Rattle.advice.specs.declared.walk.Filled.{Filled}
 use Rattle.advice.specs.declared.walk.ValuesRead.{ValuesRead}
 use Rattle.advice.specs.declared.walk.ValuesRead.the-variants as values
-use Rattle.advice.specs.declared.walk.EntryRead.{EntryRead}
-use Rattle.advice.specs.declared.walk.EntryRead.the-variants as entry
+use Rattle.advice.specs.declared.walk.MapEntryRead.{MapEntryRead}
+use Rattle.advice.specs.declared.walk.MapEntryRead.the-variants as entry
 use Rattle.advice.specs.declared.lookup.Probe.{Probe}
 use Rattle.advice.specs.declared.lookup.Probe.the-variants as probe
 use Rattle.advice.specs.declared.lookup.Elements.{Elements}
@@ -37,11 +37,11 @@ unfoldable pub valuesOutcome : List ℕ → ℕ → Outcome (At ℕ)
 valuesOutcome s at = firstMet (valuesRules s at) (record { value = counted s at .value; next = at + counted s at .len })
 
 -- an entry, without ROOM and DUPLICATE: where the next one starts
-unfoldable pub entryRules : List ℕ → ℕ → List Rule
-entryRules s at = wordRules s at ++ valuesRules s (at + 32)
+unfoldable pub mapEntryRules : List ℕ → ℕ → List Rule
+mapEntryRules s at = wordRules s at ++ valuesRules s (at + 32)
 
-unfoldable pub entryOutcome : List ℕ → ℕ → Outcome ℕ
-entryOutcome s at = firstMet (entryRules s at) (nextEntry s at)
+unfoldable pub mapEntryOutcome : List ℕ → ℕ → Outcome ℕ
+mapEntryOutcome s at = firstMet (mapEntryRules s at) (nextEntry s at)
 
 -- n entries from a place on, and the table after them
 unfoldable pub entriesOutcome : ℕ → List ℕ → ℕ → ℕ → Outcome Walked
@@ -74,9 +74,9 @@ abbrev pub shownValues : ValuesRead → Outcome (At ℕ)
 shownValues (values.Whole at n) = accepted (record { value = n; next = at .0 })
 shownValues (values.Refused why at) = refused (numberOf why) (at .0)
 
-abbrev pub shownEntry : EntryRead → Outcome ℕ
-shownEntry (entry.Whole c) = accepted (c .at .0)
-shownEntry (entry.Refused why at) = refused (numberOf why) (at .0)
+abbrev pub shownMapEntry : MapEntryRead → Outcome ℕ
+shownMapEntry (entry.Whole c) = accepted (c .at .0)
+shownMapEntry (entry.Refused why at) = refused (numberOf why) (at .0)
 
 abbrev pub shownProbe : Probe → Outcome Halved
 shownProbe (probe.Met at compared) = accepted (met (at .0) compared)

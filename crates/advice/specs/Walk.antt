@@ -1,10 +1,10 @@
 -- The map walk: its rules, in the paper's order, and what an accepted map gives and shows. Every read is total: past the end a byte reads as
 -- 0, and a rule before it has refused.
 use mathlib.Core.Path.{_≡_}
-use Prim.Native.Nat.{ℕ, zero, suc, _+_, _-_, _*_, _^_, _≤_, _<_}
-use mathlib.Core.Bool.{Bool, false}
+use Prim.Native.Nat.{ℕ, zero, suc, _+_, _*_, _≤_, _<_}
+use mathlib.Core.Bool.{false}
 use mathlib.Core.List.{List, [], _∷_, _++_, map}
-use lib.Dec.{ltb, leb}
+use lib.Dec.{leb}
 use lib.ListN.{length, getD, drop, replicate}
 use lib.Seq.{slice}
 use Rattle.wire.specs.Table.{Rule, rule, Outcome, refused, accepted, firstMet}
@@ -111,3 +111,11 @@ pub record Risen (s t : List ℕ) (n : ℕ) : Type 0 where
   pub room : n ≤ length t
   pub whole : (i : ℕ) → i < n → isShort s (getD t i 0) 32 ≡ false
   pub rise : (i j : ℕ) → i < j → j < n → wordOrder (wordAt s (getD t i 0)) (wordAt s (getD t j 0)) ≡ Below
+
+-- an entry of the map at a place: its number, below n, its key, and the place and the number of its values
+pub record EntryOf (s : List ℕ) (at n : ℕ) (key : List ℕ) (from len : ℕ) : Type 0 where
+  pub number : ℕ
+  pub below : number < n
+  pub has : fourAt s (walkEnd s (firstEntry s at) number) ≡ key
+  pub values : from ≡ valuesAt s (walkEnd s (firstEntry s at) number)
+  pub many : len ≡ size s (walkEnd s (firstEntry s at) number) .value

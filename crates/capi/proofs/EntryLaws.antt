@@ -1,54 +1,23 @@
 -- The cases of a word's entry as a row, of a row's word, and of an entry by index.
 -- Assumes nothing.
-use mathlib.Core.Path.{_≡_, refl, sym, ap, _∙_}
+use mathlib.Core.Path.{_≡_, sym, ap, _∙_}
 use mathlib.Core.Bool.{true, false}
 use mathlib.Core.List.{List, [], _∷_}
-use Prim.Native.Nat.{ℕ, zero, suc, _-_, _/_, _%_, _^_, _≤_, _<_}
+use Prim.Native.Nat.{ℕ, _-_, _/_, _%_, _^_, _≤_, _<_}
 use native.Mathlib.Omega.{arith}
 use borrow.Author.Tests.{lt-ltb, le-ltb, le-leb, lt-leb}
 use lib.ListN.{length, getD}
-use Rattle.wire.specs.Table.{Outcome, refused, accepted, firstMet, _>>=_}
+use Rattle.wire.specs.Table.{refused, accepted, firstMet, _>>=_}
 use Rattle.wire.specs.Refusals.{SHORT, TAG, PAYLOAD, INDEX}
 use Rattle.wire.specs.Le.{isShort}
-use Rattle.info.specs.Entry.{tagOf, payloadOf, kinds, entryOf, badTag, badPayload, decodeRules, decodeOutcome}
-use Rattle.info.specs.declared.MastNodeEntry.the-variants.{External}
+use Rattle.info.specs.Entry.{tagOf, payloadOf, entryOf, badTag, badPayload, decodeRules, decodeOutcome}
+use Rattle.info.proofs.NodeLaws.{kind-is-tag, numbers-pair, numbers-single, numbers-none}
 use Rattle.rows.specs.Rows.{rowAt, rowOver, rowWord, rowRules, rowOutcome}
 use Rattle.layout.specs.Index.{nodeOutcome}
 use Rattle.layout.proofs.IndexLaws.{no-node, node-row}
 use Rattle.capi.specs.Rows.{laid, entryRow}
 use Rattle.capi.specs.Given.{layoutIn, layoutOf}
 use Rattle.capi.specs.Calls.{entryCall}
-
--- ---- the row of a tag and a payload
-
-abbrev rowOf : ℕ → ℕ → List ℕ
-rowOf t p = entryRow (getD kinds t (λ p. External) p)
-
-pair-row : (t p : ℕ) → t < 2 → t ∷ p / 2 ^ 30 ∷ p % 2 ^ 30 ∷ [] ≡ rowOf t p
-pair-row zero p h = refl
-pair-row (suc zero) p h = refl
-pair-row (suc (suc t)) p h = absurd (omega arith)
-
-single-row : (t p : ℕ) → 2 ≤ t → t ≤ 5 → t ∷ p ∷ 0 ∷ [] ≡ rowOf t p
-single-row zero p l h = absurd (omega arith)
-single-row (suc zero) p l h = absurd (omega arith)
-single-row (suc (suc zero)) p l h = refl
-single-row (suc (suc (suc zero))) p l h = refl
-single-row (suc (suc (suc (suc zero)))) p l h = refl
-single-row (suc (suc (suc (suc (suc zero))))) p l h = refl
-single-row (suc (suc (suc (suc (suc (suc t)))))) p l h = absurd (omega arith)
-
-bare-row : (t p : ℕ) → 5 < t → t ≤ 8 → t ∷ 0 ∷ 0 ∷ [] ≡ rowOf t p
-bare-row zero p l h = absurd (omega arith)
-bare-row (suc zero) p l h = absurd (omega arith)
-bare-row (suc (suc zero)) p l h = absurd (omega arith)
-bare-row (suc (suc (suc zero))) p l h = absurd (omega arith)
-bare-row (suc (suc (suc (suc zero)))) p l h = absurd (omega arith)
-bare-row (suc (suc (suc (suc (suc zero))))) p l h = absurd (omega arith)
-bare-row (suc (suc (suc (suc (suc (suc zero)))))) p l h = refl
-bare-row (suc (suc (suc (suc (suc (suc (suc zero))))))) p l h = refl
-bare-row (suc (suc (suc (suc (suc (suc (suc (suc zero)))))))) p l h = refl
-bare-row (suc (suc (suc (suc (suc (suc (suc (suc (suc t))))))))) p l h = absurd (omega arith)
 
 -- ---- a word
 
@@ -60,13 +29,13 @@ module _ (i w : ℕ) where
   module _ (h : tagOf w ≤ 8) where
     pub pair-told : tagOf w < 2 → accepted (tagOf w ∷ payloadOf w / 2 ^ 30 ∷ payloadOf w % 2 ^ 30 ∷ []) ≡ laid entryRow (decodeOutcome i w)
     unfolding decodeOutcome decodeRules badTag badPayload entryOf firstMet
-    pair-told l = rw (le-ltb 8 (tagOf w) h, lt-leb 2 (tagOf w) l) (ap accepted (pair-row (tagOf w) (payloadOf w) l))
+    pair-told l = rw (le-ltb 8 (tagOf w) h, lt-leb 2 (tagOf w) l, kind-is-tag (tagOf w) (payloadOf w) h, numbers-pair (tagOf w) (payloadOf w) l)
 
     pub bare-told : 5 < tagOf w → accepted (tagOf w ∷ 0 ∷ 0 ∷ []) ≡ laid entryRow (decodeOutcome i w)
     unfolding decodeOutcome decodeRules badTag badPayload entryOf firstMet
     bare-told l =
         let two : 2 ≤ tagOf w = omega arith in
-        rw (le-ltb 8 (tagOf w) h, le-leb 2 (tagOf w) two, lt-leb (tagOf w) 5 l) (ap accepted (bare-row (tagOf w) (payloadOf w) l h))
+        rw (le-ltb 8 (tagOf w) h, le-leb 2 (tagOf w) two, lt-leb (tagOf w) 5 l, kind-is-tag (tagOf w) (payloadOf w) h, numbers-none (tagOf w) (payloadOf w) l h)
 
   module _ (l : 2 ≤ tagOf w) (h : tagOf w ≤ 5) where
     pub wide-told : 2 ^ 32 - 1 < payloadOf w → refused PAYLOAD i ≡ laid entryRow (decodeOutcome i w)
@@ -79,7 +48,8 @@ module _ (i w : ℕ) where
     unfolding decodeOutcome decodeRules badTag badPayload entryOf firstMet
     single-told p =
         let e : tagOf w ≤ 8 = omega arith in
-        rw (le-ltb 8 (tagOf w) e, le-leb 2 (tagOf w) l, le-leb (tagOf w) 5 h, le-ltb (2 ^ 32 - 1) (payloadOf w) p) (ap accepted (single-row (tagOf w) (payloadOf w) l h))
+        let six : tagOf w < 6 = omega arith in
+        rw (le-ltb 8 (tagOf w) e, le-leb 2 (tagOf w) l, le-leb (tagOf w) 5 h, le-ltb (2 ^ 32 - 1) (payloadOf w) p, kind-is-tag (tagOf w) (payloadOf w) e, numbers-single (tagOf w) (payloadOf w) l six)
 
 -- ---- a row whose end fits
 

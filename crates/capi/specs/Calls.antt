@@ -4,6 +4,7 @@ use mathlib.Core.List.{List, [], _∷_}
 use mathlib.Core.Bool.{Bool}
 use Rattle.wire.specs.Table.{Outcome, accepted, checked, _>>=_}
 use Rattle.wire.specs.Counts.{countOutcome, shortestLen, writeOutcome}
+use Rattle.info.specs.Node.{makeOutcome}
 use Rattle.info.specs.Entry.{decodeOutcome, encodeOutcome}
 use Rattle.layout.specs.Scan.{scanOutcome}
 use Rattle.layout.specs.Index.{rootOutcome, nodeOutcome}
@@ -14,7 +15,7 @@ use Rattle.advice.specs.Walk.{walkOutcome}
 use Rattle.advice.specs.Lookup.{lookupOutcome}
 use Rattle.writer.specs.Parts.{Parts}
 use Rattle.writer.specs.Writer.{writeOutcome as forestOutcome, outputAfter}
-use Rattle.capi.specs.Given.{fewRule, factsRules, factsOf, layoutOf, boundOf, entryOf}
+use Rattle.capi.specs.Given.{fewRule, factsRules, factsOf, layoutOf, boundOf}
 use Rattle.capi.specs.Rows.{laid, noRow, oneRow, fourRow, countRow, entryRow, layoutRow, boundRow, walkedRow, lookedRow, partRow, after}
 
 abbrev pub readCount : List ℕ → ℕ → Outcome (List ℕ)
@@ -32,7 +33,7 @@ decodeEntry word = laid entryRow (decodeOutcome 0 word)
 -- A refusal of what is given as numbers comes first.
 
 unfoldable pub encodeCall : ℕ → ℕ → ℕ → Outcome (List ℕ)
-encodeCall kind a b = entryOf kind a b >>= (λ e. laid oneRow (encodeOutcome e))
+encodeCall kind a b = makeOutcome kind a b >>= (λ e. laid oneRow (encodeOutcome e))
 
 unfoldable pub scanCall : List ℕ → List ℕ → Bool → ℕ → ℕ → Outcome (List ℕ)
 scanCall s facts allow flag bytes = checked (factsRules facts) >>= (λ _. laid layoutRow (scanOutcome (factsOf facts) s allow (boundOf flag bytes)))

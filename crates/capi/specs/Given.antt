@@ -1,13 +1,10 @@
--- What is given as numbers: facts, layouts, bounds, entries.
+-- What is given as numbers: facts, layouts, bounds. Entries are made by `makeOutcome` of info.
 use Prim.Native.Nat.{ℕ, _%_}
-use mathlib.Core.Bool.{Bool}
 use mathlib.Core.List.{List, [], _∷_}
 use lib.Dec.{ltb, eqb}
 use lib.ListN.{length, getD}
 use Rattle.wire.specs.Table.{Rule, rule, Outcome, pick, firstMet}
 use Rattle.wire.specs.Refusals.{INDEX}
-use Rattle.info.specs.declared.MastNodeEntry.{MastNodeEntry}
-use Rattle.info.specs.declared.MastNodeEntry.the-variants.{Join, Split, Loop, Block, Call, SysCall, Dyn, Dyncall, External}
 use Rattle.layout.specs.declared.facts.FormatFacts.{FormatFacts}
 use Rattle.layout.specs.declared.facts.Bound.{Bound}
 use Rattle.layout.specs.declared.facts.Bound.the-variants.{None, Bytes}
@@ -76,21 +73,3 @@ layoutOf xs = firstMet (fewRule 12 xs ∷ []) (layoutIn xs)
 -- a flag of 0 is no bound
 unfoldable pub boundOf : ℕ → ℕ → Bound
 boundOf flag n = pick (eqb flag 0) None (Bytes n)
-
--- what each kind makes of two numbers
-abbrev pub makers : List (ℕ → ℕ → MastNodeEntry)
-makers =
-    Join
-    ∷ Split
-    ∷ (λ a b. Loop a)
-    ∷ (λ a b. Block a)
-    ∷ (λ a b. Call a)
-    ∷ (λ a b. SysCall a)
-    ∷ (λ a b. Dyn)
-    ∷ (λ a b. Dyncall)
-    ∷ (λ a b. External)
-    ∷ []
-
--- a kind above 8: INDEX [the kind]
-unfoldable pub entryOf : ℕ → ℕ → ℕ → Outcome MastNodeEntry
-entryOf kind a b = firstMet (rule INDEX kind (ltb 8 kind) ∷ []) (getD makers kind (λ a b. External) a b)

@@ -9,7 +9,7 @@ use Rattle.wire.specs.Table.{Outcome, refused, accepted, pick, At}
 use Rattle.wire.specs.Refusals.{ROOM}
 use Rattle.wire.specs.declared.count.Count.{Count}
 use Rattle.info.specs.declared.MastNodeEntry.{MastNodeEntry}
-use Rattle.info.specs.declared.MastNodeEntry.the-variants.{Join, Split, Loop, Block, Call, SysCall, Dyn, Dyncall, External}
+use Rattle.info.specs.Node.{kindOf, numbersOf}
 use Rattle.layout.specs.declared.facts.Bound.{Bound}
 use Rattle.layout.specs.declared.facts.Bound.the-variants.{None, Bytes}
 use Rattle.layout.specs.declared.forest.HashSection.{HashSection}
@@ -73,15 +73,7 @@ countRow c = c .value .value ∷ c .value .len ∷ c .next ∷ []
 
 -- the kind, by its tag, and two numbers, 0 where there are none
 abbrev pub entryRow : MastNodeEntry → List ℕ
-entryRow (Join left right) = 0 ∷ left ∷ right ∷ []
-entryRow (Split then else) = 1 ∷ then ∷ else ∷ []
-entryRow (Loop body) = 2 ∷ body ∷ 0 ∷ []
-entryRow (Block offset) = 3 ∷ offset ∷ 0 ∷ []
-entryRow (Call callee) = 4 ∷ callee ∷ 0 ∷ []
-entryRow (SysCall callee) = 5 ∷ callee ∷ 0 ∷ []
-entryRow Dyn = 6 ∷ 0 ∷ 0 ∷ []
-entryRow Dyncall = 7 ∷ 0 ∷ 0 ∷ []
-entryRow External = 8 ∷ 0 ∷ 0 ∷ []
+entryRow e = kindOf e ∷ getD (numbersOf e) 0 0 ∷ getD (numbersOf e) 1 0 ∷ []
 
 -- 1 and the place, or 0 and 0
 abbrev pub hashFlag : HashSection → ℕ

@@ -4,14 +4,11 @@ use Prim.Native.Nat.{ℕ}
 use Rattle.wire.specs.Table.{Outcome, refused, accepted, pick}
 use Rattle.wire.specs.Refusals.{numberOf}
 use Rattle.capi.specs.Rows.{layoutRow}
-use Rattle.info.specs.declared.MastNodeEntry.{MastNodeEntry}
 use Rattle.layout.specs.declared.forest.ForestLayout.{ForestLayout}
 use Rattle.capi.specs.declared.given.Facts.{Facts}
 use Rattle.capi.specs.declared.given.Facts.the-variants as facts
 use Rattle.capi.specs.declared.given.Record.{Record}
 use Rattle.capi.specs.declared.given.Record.the-variants as record-given
-use Rattle.capi.specs.declared.given.Made.{Made}
-use Rattle.capi.specs.declared.given.Made.the-variants as made
 use Rattle.capi.specs.declared.told.Told.{Told}
 use Rattle.capi.specs.declared.told.Told.the-variants as told
 use Rattle.capi.specs.declared.told.Triple.{Triple}
@@ -34,7 +31,3 @@ shownFacts (facts.Refused why at) = refused (numberOf why) at
 abbrev pub shownRecord : Record → Outcome ForestLayout
 shownRecord (record-given.Is l) = accepted l
 shownRecord (record-given.Refused why at) = refused (numberOf why) at
-
-abbrev pub shownMade : Made → Outcome MastNodeEntry
-shownMade (made.Entry e) = accepted e
-shownMade (made.Refused why at) = refused (numberOf why) at

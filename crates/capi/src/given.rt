@@ -1,5 +1,4 @@
-// What is given as numbers: facts, layouts, bounds, entries.
-use info::MastNodeEntry;
+// What is given as numbers: facts, layouts, bounds.
 use layout::facts::Bound;
 use layout::facts::FormatFacts;
 use layout::forest::ForestLayout;
@@ -11,8 +10,8 @@ ghost use mathlib.Core.Path.{_≡_};
 ghost use Prim.Native.Nat.{_%_};
 ghost use lib.ListN.{getD};
 ghost use Rattle.wire.specs.Table.{checked};
-ghost use Rattle.capi.specs.Given.{factsRules, factsOf, hashesOf, layoutOf, boundOf, entryOf};
-ghost use Rattle.capi.specs.Shown.{shownFacts, shownRecord, shownMade};
+ghost use Rattle.capi.specs.Given.{factsRules, factsOf, hashesOf, layoutOf, boundOf};
+ghost use Rattle.capi.specs.Shown.{shownFacts, shownRecord};
 
 pub(crate) enum Facts {
     Fit,
@@ -21,11 +20,6 @@ pub(crate) enum Facts {
 
 pub(crate) enum Record {
     Is(ForestLayout),
-    Refused(Refusal, usize),
-}
-
-pub(crate) enum Made {
-    Entry(MastNodeEntry),
     Refused(Refusal, usize),
 }
 
@@ -138,28 +132,4 @@ pub(crate) fn bound_of(flag: u64, bytes: usize) -> Bound
         return Bound::None;
     }
     Bound::Bytes(bytes)
-}
-
-// The entry of a kind with two numbers; a kind that has fewer leaves the rest.
-pub(crate) fn entry_of(kind: usize, a: u32, b: u32) -> Made
-    ensures { λ r. ⌜ shownMade r ≡ entryOf kind a b ⌝ }
-{
-    match kind {
-        0 => Made::Entry(MastNodeEntry::Join {
-            left_child_id: a,
-            right_child_id: b,
-        }),
-        1 => Made::Entry(MastNodeEntry::Split {
-            if_branch_id: a,
-            else_branch_id: b,
-        }),
-        2 => Made::Entry(MastNodeEntry::Loop { body_id: a }),
-        3 => Made::Entry(MastNodeEntry::Block { ops_offset: a }),
-        4 => Made::Entry(MastNodeEntry::Call { callee_id: a }),
-        5 => Made::Entry(MastNodeEntry::SysCall { callee_id: a }),
-        6 => Made::Entry(MastNodeEntry::Dyn),
-        7 => Made::Entry(MastNodeEntry::Dyncall),
-        8 => Made::Entry(MastNodeEntry::External),
-        _ => Made::Refused(Refusal::Index, kind),
-    }
 }

@@ -1,10 +1,8 @@
 // Answers over what is given as numbers: a refusal of what is given comes first.
 use crate::given::Facts;
-use crate::given::Made;
 use crate::given::Record;
 use crate::given::bound_of;
 use crate::given::check_facts;
-use crate::given::entry_of;
 use crate::given::facts_of;
 use crate::given::record_of;
 use crate::told::Told;
@@ -22,6 +20,8 @@ use checks::check_children;
 use checks::check_order;
 use checks::check_strict;
 use info::encode_entry;
+use info::node::EntryMade;
+use info::node::make_entry;
 use layout::index::read_procedure_root_at;
 use layout::scan::scan_layout;
 use resolved::digests::digest_by_counting;
@@ -41,9 +41,9 @@ ghost use Rattle.capi.specs.Shown.{shownTold};
 pub(crate) fn encode_said(kind: usize, a: u32, b: u32) -> Told
     ensures { λ r. ⌜ shownTold r ≡ encodeCall kind a b ⌝ }
 {
-    match entry_of(kind, a, b) {
-        Made::Refused(why, at) => Told::Refused(why, at),
-        Made::Entry(entry) => encoded_told(encode_entry(entry)),
+    match make_entry(kind, a, b) {
+        EntryMade::Refused(why, at) => Told::Refused(why, at),
+        EntryMade::Entry(entry) => encoded_told(encode_entry(entry)),
     }
 }
 

@@ -19,7 +19,7 @@ use writer::file::ForestWrite;
 ghost use mathlib.Core.Path.{_≡_};
 ghost use mathlib.Core.List.{[], _∷_};
 ghost use Prim.Native.Nat.{_≤_};
-ghost use lib.ListN.{length, set};
+ghost use lib.ListN.{set};
 ghost use lib.Seq.{sets};
 ghost use Rattle.wire.specs.Table.{refused, accepted};
 ghost use Rattle.wire.specs.Refusals.{numberOf};

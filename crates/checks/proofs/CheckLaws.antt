@@ -3,13 +3,12 @@
 use mathlib.Core.Path.{_≡_, refl, ap, _∙_}
 use mathlib.Core.List.{List, [], _∷_}
 use Prim.Native.Nat.{ℕ}
-use Rattle.wire.specs.Table.{rule, accepted, checked, _>>=_}
-use Rattle.wire.specs.Refusals.{PAYLOAD}
+use Rattle.wire.specs.Table.{accepted, checked, _>>=_}
 use Rattle.wire.proofs.Tables.{accepted-none, none-accepted}
 use Rattle.wire.proofs.Stages.{in-turn}
-use Rattle.info.specs.Entry.{entryOf, decodeRules, decodeOutcome, wordOf, wideIds, encodeOutcome, canonical}
+use Rattle.info.specs.Entry.{entryOf, decodeRules, decodeOutcome, wordOf, canonical}
 use Rattle.info.specs.declared.MastNodeEntry.{MastNodeEntry}
-use Rattle.info.proofs.Laws.{decoded-encodes}
+use Rattle.info.proofs.Laws.{decoded-word}
 use Rattle.rows.specs.Rows.{rowWord, rowRules, rowOutcome}
 use Rattle.checks.specs.Checks.{childRules}
 
@@ -22,9 +21,8 @@ pair-split nodes parent left right =
 
 -- the written form of an entry that is read is its word's canonical form
 pub written-form : (s : List ℕ) (first i : ℕ) (e : MastNodeEntry) → rowOutcome s first i ≡ accepted e → wordOf e ≡ canonical (rowWord s first i)
-unfolding rowOutcome rowRules decodeOutcome encodeOutcome
+unfolding rowOutcome rowRules decodeOutcome
 written-form s first i e q =
     let w = rowWord s first i in
     let k = accepted-none (rowRules s first i) (entryOf w) e q in
-    let read : decodeOutcome i w ≡ accepted e = none-accepted (decodeRules i w) (entryOf w) (k .0 .1 .1) ∙ ap accepted (k .1) in
-    accepted-none (rule PAYLOAD 0 (wideIds e) ∷ []) (wordOf e) (canonical w) (decoded-encodes i w e read) .1
+    decoded-word i w e (none-accepted (decodeRules i w) (entryOf w) (k .0 .1 .1) ∙ ap accepted (k .1))

@@ -11,18 +11,18 @@ use Prim.Native.Nat.{ℕ, zero, suc, _+_, _≤_, _<_}
 use native.Mathlib.Omega.{arith}
 use borrow.Author.Tests.{ltb-true, ltb-false, leb-false, eqb-true, not-false}
 use lib.Dec.{ltb, eqb}
-use Rattle.wire.specs.Table.{rule, accepted, noneMet}
+use Rattle.wire.specs.Table.{rule, accepted, pick, noneMet}
 use Rattle.wire.specs.Refusals.{ORDER, NOT-CANONICAL}
 use Rattle.wire.proofs.Stages.{both-taken}
 use Rattle.wire.proofs.Tables.{accepted-none}
+use Rattle.info.specs.Node.{childrenOf, isExternal, isBlock, classOf}
 use Rattle.info.specs.Entry.{wordOf}
 use Rattle.info.specs.declared.MastNodeEntry.{MastNodeEntry}
-use Rattle.info.specs.declared.MastNodeEntry.the-variants.{Join, Split, Loop, Block, Call, SysCall, Dyn, Dyncall, External}
-use Rattle.rows.specs.Rows.{rowWord}
+use Rattle.rows.specs.Rows.{rowWord, nodePass}
+use Rattle.rows.proofs.Pass.{pass-each}
 use Rattle.layout.specs.declared.forest.ForestLayout.{ForestLayout}
-use Rattle.resolved.specs.Nodes.{nodeEntry, nodePass}
-use Rattle.checks.specs.Checks.{In, Child, Reaches, once, further, Class, Ordered, children, childRules, judgeChildren, childrenOutcome, classOf, judgeOrder, orderOutcome, judgeStrict, strictOutcome}
-use Rattle.resolved.proofs.Pass.{pass-each}
+use Rattle.resolved.specs.Nodes.{nodeEntry}
+use Rattle.checks.specs.Checks.{In, Child, Reaches, once, further, Class, Ordered, AsWritten, childRules, judgeChildren, childrenOutcome, judgeOrder, orderOutcome, judgeStrict, strictOutcome}
 
 -- ---- children
 
@@ -41,7 +41,7 @@ module _ (s : List ℕ) (l : ForestLayout) (holds : childrenOutcome s l ≡ acce
   child-below i j h c =
       let p = pass-each (nodeEntry s l) (judgeChildren (l .«node_count»)) tt (l .«node_count») tt holds i h in
       let same : p .entry ≡ c .0 = cc (p .read-as, c .1 .0) in
-      child-rule (l .«node_count») i (children (p .entry)) (accepted-none (childRules (l .«node_count») i (children (p .entry))) tt (p .after) (p .judged) .0) j (rw same (c .1 .1))
+      child-rule (l .«node_count») i (childrenOf (p .entry)) (accepted-none (childRules (l .«node_count») i (childrenOf (p .entry))) tt (p .after) (p .judged) .0) j (rw same (c .1 .1))
 
   pub reaches-below : (i j : ℕ) → i < l .«node_count» → Reaches s l i j → j < i
   reaches-below i j h (once c) = child-below i j h c .1
@@ -55,16 +55,10 @@ module _ (s : List ℕ) (l : ForestLayout) (holds : childrenOutcome s l ≡ acce
 
 -- ---- order
 
-class-cases : (e : MastNodeEntry) → (classOf e ≡ 0) ⊎ ((classOf e ≡ 1) ⊎ (classOf e ≡ 2))
-class-cases (Join left right) = inr (inr refl)
-class-cases (Split then else) = inr (inr refl)
-class-cases (Loop body) = inr (inr refl)
-class-cases (Block offset) = inr (inl refl)
-class-cases (Call callee) = inr (inr refl)
-class-cases (SysCall callee) = inr (inr refl)
-class-cases Dyn = inr (inr refl)
-class-cases Dyncall = inr (inr refl)
-class-cases External = inl refl
+class-cases : (external block : Bool) → let class : ℕ = pick external 0 (pick block 1 2) in (class ≡ 0) ⊎ ((class ≡ 1) ⊎ (class ≡ 2))
+class-cases true block = inl refl
+class-cases false true = inr (inl refl)
+class-cases false false = inr (inr refl)
 
 module _ (s : List ℕ) (l : ForestLayout) where
   -- so far, with what the class of the last node says of the others
@@ -159,7 +153,7 @@ module _ (s : List ℕ) (l : ForestLayout) where
       (λ one-class. rw one-class (block-next n last (omega arith) (e, (r, one-class)) so))
       (λ two-class. rw two-class (other-next n last (e, (r, two-class)) so))
       more)
-      (class-cases e)
+      (class-cases (isExternal e) (isBlock e))
 
   sofar : (n last : ℕ) → nodePass (nodeEntry s l) judgeOrder 0 n ≡ accepted last → Sofar n last
   unfolding nodePass
@@ -176,8 +170,7 @@ module _ (s : List ℕ) (l : ForestLayout) where
 
 -- ---- strict entries
 
-pub strict-holds : (s : List ℕ) (l : ForestLayout) → strictOutcome s l ≡ accepted tt → (i : ℕ) → i < l .«node_count» →
-    (e : MastNodeEntry) × ((nodeEntry s l i ≡ accepted e) × (wordOf e ≡ rowWord s (l .«node_entry_offset» .0) i))
+pub strict-holds : (s : List ℕ) (l : ForestLayout) → strictOutcome s l ≡ accepted tt → AsWritten s l (l .«node_count»)
 unfolding strictOutcome
 strict-holds s l holds i h =
     let first = l .«node_entry_offset» .0 in

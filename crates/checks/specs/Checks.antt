@@ -7,26 +7,14 @@ use mathlib.Core.List.{List, [], _∷_}
 use lib.Dec.{ltb, leb, eqb}
 use Rattle.wire.specs.Table.{Rule, rule, Outcome, accepted, firstMet, checked, _>>=_}
 use Rattle.wire.specs.Refusals.{CHILD-RANGE, FORWARD, ORDER, NOT-CANONICAL}
+use Rattle.info.specs.Node.{childrenOf, classOf}
 use Rattle.info.specs.Entry.{wordOf}
 use Rattle.info.specs.declared.MastNodeEntry.{MastNodeEntry}
-use Rattle.info.specs.declared.MastNodeEntry.the-variants.{Join, Split, Loop, Block, Call, SysCall, Dyn, Dyncall, External}
-use Rattle.rows.specs.Rows.{rowWord}
+use Rattle.rows.specs.Rows.{rowWord, nodePass}
 use Rattle.layout.specs.declared.forest.ForestLayout.{ForestLayout}
-use Rattle.resolved.specs.Nodes.{nodeEntry, nodePass}
+use Rattle.resolved.specs.Nodes.{nodeEntry}
 
 -- ---- children
-
--- the children of an entry, left first; the number of a Block is no child
-abbrev pub children : MastNodeEntry → List ℕ
-children (Join left right) = left ∷ right ∷ []
-children (Split then else) = then ∷ else ∷ []
-children (Loop body) = body ∷ []
-children (Block offset) = []
-children (Call callee) = callee ∷ []
-children (SysCall callee) = callee ∷ []
-children Dyn = []
-children Dyncall = []
-children External = []
 
 -- each child: not below the node count, else not below the parent; both [the parent]
 unfoldable pub childRules : ℕ → ℕ → List ℕ → List Rule
@@ -37,7 +25,7 @@ childRules nodes parent (child ∷ others) =
     ∷ childRules nodes parent others
 
 abbrev pub judgeChildren : ℕ → ℕ → Unit {0} → MastNodeEntry → Outcome (Unit {0})
-judgeChildren nodes i before e = checked (childRules nodes i (children e))
+judgeChildren nodes i before e = checked (childRules nodes i (childrenOf e))
 
 unfoldable pub childrenOutcome : List ℕ → ForestLayout → Outcome (Unit {0})
 childrenOutcome s l = nodePass (nodeEntry s l) (judgeChildren (l .«node_count»)) tt (l .«node_count»)
@@ -49,26 +37,18 @@ In x (y ∷ ys) = (x ≡ y) ⊎ In x ys
 
 -- node j is a child of node i
 abbrev pub Child : List ℕ → ForestLayout → ℕ → ℕ → Type 0
-Child s l i j = (e : MastNodeEntry) × ((nodeEntry s l i ≡ accepted e) × In j (children e))
+Child s l i j = (e : MastNodeEntry) × ((nodeEntry s l i ≡ accepted e) × In j (childrenOf e))
 
 -- node j is a child of node i, or a child of one that node i reaches
 pub data Reaches (s : List ℕ) (l : ForestLayout) : ℕ → ℕ → Type 0 where
   once : {i j : ℕ} → Child s l i j → Reaches s l i j
   further : {i j k : ℕ} → Child s l i j → Reaches s l j k → Reaches s l i k
 
--- ---- order
+-- the first n nodes read, and every child is below its parent
+abbrev pub ChildrenBelow : List ℕ → ForestLayout → ℕ → Type 0
+ChildrenBelow s l n = (i : ℕ) → i < n → (e : MastNodeEntry) × ((nodeEntry s l i ≡ accepted e) × ((j : ℕ) → In j (childrenOf e) → j < i))
 
--- the classes in their order: External, Block, all others
-abbrev pub classOf : MastNodeEntry → ℕ
-classOf (Join left right) = 2
-classOf (Split then else) = 2
-classOf (Loop body) = 2
-classOf (Block offset) = 1
-classOf (Call callee) = 2
-classOf (SysCall callee) = 2
-classOf Dyn = 2
-classOf Dyncall = 2
-classOf External = 0
+-- ---- order
 
 -- a node whose class is below its predecessor's [the node]; before node 0 stands the lowest class, below which is none
 abbrev pub judgeOrder : ℕ → ℕ → MastNodeEntry → Outcome ℕ
@@ -80,6 +60,10 @@ orderOutcome s l = nodePass (nodeEntry s l) judgeOrder 0 (l .«node_count») >>=
 -- node i has an entry of a class
 abbrev pub Class : List ℕ → ForestLayout → ℕ → ℕ → Type 0
 Class s l i class = (e : MastNodeEntry) × ((nodeEntry s l i ≡ accepted e) × (classOf e ≡ class))
+
+-- the first n nodes read, and of two the later one's class is not below the earlier one's
+abbrev pub NeverFall : List ℕ → ForestLayout → ℕ → Type 0
+NeverFall s l n = (i j : ℕ) → i ≤ j → j < n → (a : ℕ) × ((b : ℕ) × (Class s l i a × (Class s l j b × (a ≤ b))))
 
 -- the first n nodes: some externals, then some blocks, then others only
 pub record Ordered (s : List ℕ) (l : ForestLayout) (n : ℕ) : Type 0 where
@@ -98,3 +82,7 @@ judgeStrict s first i before e = checked (rule NOT-CANONICAL i (not (eqb (wordOf
 
 unfoldable pub strictOutcome : List ℕ → ForestLayout → Outcome (Unit {0})
 strictOutcome s l = nodePass (nodeEntry s l) (judgeStrict s (l .«node_entry_offset» .0)) tt (l .«node_count»)
+
+-- the first n nodes read, and each entry's written form is its 8 bytes
+abbrev pub AsWritten : List ℕ → ForestLayout → ℕ → Type 0
+AsWritten s l n = (i : ℕ) → i < n → (e : MastNodeEntry) × ((nodeEntry s l i ≡ accepted e) × (wordOf e ≡ rowWord s (l .«node_entry_offset» .0) i))

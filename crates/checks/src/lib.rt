@@ -2,6 +2,9 @@
 // time, and judges a node before it reads the next.
 use info::MastNodeEntry;
 use info::canonical_word;
+use info::node::Children;
+use info::node::children_of;
+use info::node::class_of;
 use layout::forest::ForestLayout;
 use rows::RowEntry;
 use rows::row_entry;
@@ -11,9 +14,9 @@ use wire::units::ByteOffset;
 ghost use mathlib.Core.Path.{_≡_};
 ghost use mathlib.Core.List.{[], _∷_};
 ghost use Rattle.wire.specs.Table.{checked};
-ghost use Rattle.rows.specs.Rows.{rowOutcome};
-ghost use Rattle.resolved.specs.Nodes.{nodeStep};
-ghost use Rattle.checks.specs.Checks.{children, childRules, judgeChildren, childrenOutcome, classOf, judgeOrder, orderOutcome, judgeStrict, strictOutcome};
+ghost use Rattle.info.specs.Node.{childrenOf};
+ghost use Rattle.rows.specs.Rows.{rowOutcome, nodeStep};
+ghost use Rattle.checks.specs.Checks.{childRules, judgeChildren, childrenOutcome, judgeOrder, orderOutcome, judgeStrict, strictOutcome};
 ghost use Rattle.checks.specs.Shown.{shownCheck, shownOrder};
 
 // Every node is in order, or the first refusal, with the node's number.
@@ -54,24 +57,12 @@ fn judge_pair(nodes: usize, parent: usize, left: u32, right: u32) -> NodeCheck
 
 // The children of one entry.
 fn judge_children(nodes: usize, parent: usize, entry: MastNodeEntry) -> NodeCheck
-    ensures { λ r. ⌜ shownCheck r ≡ checked (childRules nodes parent (children entry)) ⌝ }
+    ensures { λ r. ⌜ shownCheck r ≡ checked (childRules nodes parent (childrenOf entry)) ⌝ }
 {
-    match entry {
-        MastNodeEntry::Join {
-            left_child_id,
-            right_child_id,
-        } => judge_pair(nodes, parent, left_child_id, right_child_id),
-        MastNodeEntry::Split {
-            if_branch_id,
-            else_branch_id,
-        } => judge_pair(nodes, parent, if_branch_id, else_branch_id),
-        MastNodeEntry::Loop { body_id } => judge_child(nodes, parent, body_id),
-        MastNodeEntry::Block { ops_offset: _ } => NodeCheck::Holds,
-        MastNodeEntry::Call { callee_id } => judge_child(nodes, parent, callee_id),
-        MastNodeEntry::SysCall { callee_id } => judge_child(nodes, parent, callee_id),
-        MastNodeEntry::Dyn => NodeCheck::Holds,
-        MastNodeEntry::Dyncall => NodeCheck::Holds,
-        MastNodeEntry::External => NodeCheck::Holds,
+    match children_of(entry) {
+        Children::None => NodeCheck::Holds,
+        Children::One(child) => judge_child(nodes, parent, child),
+        Children::Two(left, right) => judge_pair(nodes, parent, left, right),
     }
 }
 
@@ -100,29 +91,6 @@ pub fn check_children(s: &[u8], layout: ForestLayout) -> NodeCheck
         }
     }
     NodeCheck::Holds
-}
-
-// The class of a node in the order: External, Block, all others.
-fn class_of(entry: MastNodeEntry) -> u8
-    ensures { λ r. ⌜ r ≡ classOf entry ⌝ }
-{
-    match entry {
-        MastNodeEntry::Join {
-            left_child_id: _,
-            right_child_id: _,
-        } => 2,
-        MastNodeEntry::Split {
-            if_branch_id: _,
-            else_branch_id: _,
-        } => 2,
-        MastNodeEntry::Loop { body_id: _ } => 2,
-        MastNodeEntry::Block { ops_offset: _ } => 1,
-        MastNodeEntry::Call { callee_id: _ } => 2,
-        MastNodeEntry::SysCall { callee_id: _ } => 2,
-        MastNodeEntry::Dyn => 2,
-        MastNodeEntry::Dyncall => 2,
-        MastNodeEntry::External => 0,
-    }
 }
 
 // Node i is read, and its class is judged against its predecessor's.

@@ -1,37 +1,33 @@
 -- The laws of the node entry's two directions.
 --     encoded-decodes     what is encoded decodes to the same entry
---     decoded-encodes     what decodes encodes to the word's canonical form
+--     decoded-encodes     what decodes encodes to the word's canonical form (decoded-word: its word is that)
 --     canonical-exactly   that is the word itself exactly if its tag is below 6 or its payload is zero
 -- Assumes nothing.
-use mathlib.Core.Path.{_≡_, refl, sym, _∙_}
+use mathlib.Core.Path.{_≡_, refl, _∙_}
 use mathlib.Core.Bool.{Bool, true, false, _&&_, _||_}
 use mathlib.Core.List.{[], _∷_}
 use mathlib.Core.Logic.{_⊎_, inl, inr, ⊎-elim, _↔_}
-use Prim.Native.Nat.{ℕ, zero, suc, _+_, _*_, _-_, _/_, _%_, _^_, _<_, _≤_}
+use Prim.Native.Nat.{ℕ, _+_, _*_, _-_, _/_, _%_, _^_, _<_, _≤_}
 use native.Mathlib.Nat.{div-add-mod'}
 use native.Mathlib.Omega.{arith}
-use borrow.Author.Tests.{ltb-true, ltb-false, leb-true, leb-false, lt-leb, le-ltb, lt-ltb}
+use borrow.Author.Tests.{ltb-true, ltb-false, leb-false, lt-leb, le-ltb, lt-ltb}
 use lib.Dec.{ltb, leb}
-use lib.ListN.{getD}
 use lib.Pow.{high, low}
-use Rattle.wire.specs.Table.{Outcome, refused, accepted, pick, firstMet, rule}
+use Rattle.wire.specs.Table.{accepted, pick, firstMet, rule}
 use Rattle.wire.specs.Refusals.{PAYLOAD}
 use Rattle.wire.proofs.Tables.{accepted-none}
-use Rattle.info.specs.Entry.{tagOf, payloadOf, kinds, entryOf, badTag, badPayload, decodeRules, decodeOutcome, wordOf, wideId, wideIds, encodeOutcome, canonical, Held}
+use Rattle.info.specs.Entry.{tagOf, payloadOf, entryFrom, entryOf, badTag, badPayload, decodeRules, decodeOutcome, wordOf, wideId, wideIds, encodeOutcome, canonical, Held}
 use Rattle.info.specs.declared.MastNodeEntry.{MastNodeEntry}
 use Rattle.info.specs.declared.MastNodeEntry.the-variants.{Join, Split, Loop, Block, Call, SysCall, Dyn, Dyncall, External}
 use Rattle.info.proofs.Cases.{single-fits}
-
--- what a tag and a payload say
-abbrev kindOf : ℕ → ℕ → MastNodeEntry
-kindOf t p = getD kinds t (λ q. External) p
+use Rattle.info.proofs.NodeLaws.{by-tag}
 
 abbrev wideFor : ℕ → ℕ → Bool
 wideFor t p = (leb 2 t && leb t 5) && ltb (2 ^ 32 - 1) p
 
 -- ---- written, then read
 
-decode-word : (at t p : ℕ) → p < 2 ^ 60 → ltb 8 t ≡ false → wideFor t p ≡ false → decodeOutcome at (t * 2 ^ 60 + p) ≡ accepted (kindOf t p)
+decode-word : (at t p : ℕ) → p < 2 ^ 60 → ltb 8 t ≡ false → wideFor t p ≡ false → decodeOutcome at (t * 2 ^ 60 + p) ≡ accepted (entryFrom t p)
 unfolding decodeOutcome decodeRules firstMet entryOf badTag badPayload
 decode-word at t p h a b = rw (high t 60 h, low t 60 h, a, b)
 
@@ -43,7 +39,7 @@ or-false false b e = (refl, e)
 narrow : (a b : ℕ) → (wideId a || wideId b) ≡ false → (a < 2 ^ 30) × (b < 2 ^ 30)
 narrow a b e = let h = or-false (wideId a) (wideId b) e in (leb-false (2 ^ 30) a (h .0), leb-false (2 ^ 30) b (h .1))
 
-pair-read : (at t : ℕ) (kind : ℕ → ℕ → MastNodeEntry) (a b : ℕ) → t < 2 → ((p : ℕ) → kindOf t p ≡ kind (p / 2 ^ 30) (p % 2 ^ 30))
+pair-read : (at t : ℕ) (kind : ℕ → ℕ → MastNodeEntry) (a b : ℕ) → t < 2 → ((p : ℕ) → entryFrom t p ≡ kind (p / 2 ^ 30) (p % 2 ^ 30))
     → (wideId a || wideId b) ≡ false → decodeOutcome at (t * 2 ^ 60 + (a * 2 ^ 30 + b)) ≡ accepted (kind a b)
 pair-read at t kind a b h is e =
     let n = narrow a b e in
@@ -59,10 +55,10 @@ encoded-decodes at e w held said =
     go : (e : MastNodeEntry) → Held e → wideIds e ≡ false → decodeOutcome at (wordOf e) ≡ accepted e
     go (Join a b) h n = pair-read at 0 Join a b (omega arith) (λ p. refl) n
     go (Split a b) h n = pair-read at 1 Split a b (omega arith) (λ p. refl) n
-    go (Loop a) h n = decode-word at 2 a (omega arith) refl (single-fits a h)
-    go (Block a) h n = decode-word at 3 a (omega arith) refl (single-fits a h)
-    go (Call a) h n = decode-word at 4 a (omega arith) refl (single-fits a h)
-    go (SysCall a) h n = decode-word at 5 a (omega arith) refl (single-fits a h)
+    go (Loop a) h n = decode-word at 2 a (omega (arith, h .0)) refl (single-fits a (h .0))
+    go (Block a) h n = decode-word at 3 a (omega (arith, h .0)) refl (single-fits a (h .0))
+    go (Call a) h n = decode-word at 4 a (omega (arith, h .0)) refl (single-fits a (h .0))
+    go (SysCall a) h n = decode-word at 5 a (omega (arith, h .0)) refl (single-fits a (h .0))
     go Dyn h n = decode-word at 6 0 (omega arith) refl refl
     go Dyncall h n = decode-word at 7 0 (omega arith) refl refl
     go External h n = decode-word at 8 0 (omega arith) refl refl
@@ -78,24 +74,22 @@ encode-pair kind t p h write =
     rw (div-add-mod' p (2 ^ 30)) at (write (p / 2 ^ 30) (p % 2 ^ 30) (rw (lt-leb (2 ^ 30) (p / 2 ^ 30) a, lt-leb (2 ^ 30) (p % 2 ^ 30) b)))
 
 -- by the tag: the same payload up to tag 5, and 0 from 6 on
-rewritten : (t p : ℕ) → p < 2 ^ 60 → ltb 8 t ≡ false → encodeOutcome (kindOf t p) ≡ accepted (t * 2 ^ 60 + pick (ltb t 6) p 0)
+rewritten : (t p : ℕ) → p < 2 ^ 60 → t ≤ 8 → encodeOutcome (entryFrom t p) ≡ accepted (t * 2 ^ 60 + pick (ltb t 6) p 0)
 unfolding encodeOutcome firstMet
-rewritten zero p h n = encode-pair Join 0 p h (λ a b e. rw e)
-rewritten (suc zero) p h n = encode-pair Split 1 p h (λ a b e. rw e)
-rewritten (suc (suc zero)) p h n = refl
-rewritten (suc (suc (suc zero))) p h n = refl
-rewritten (suc (suc (suc (suc zero)))) p h n = refl
-rewritten (suc (suc (suc (suc (suc zero))))) p h n = refl
-rewritten (suc (suc (suc (suc (suc (suc zero)))))) p h n = refl
-rewritten (suc (suc (suc (suc (suc (suc (suc zero))))))) p h n = refl
-rewritten (suc (suc (suc (suc (suc (suc (suc (suc zero)))))))) p h n = refl
-rewritten (suc (suc (suc (suc (suc (suc (suc (suc (suc t))))))))) p h n = absurd (omega (arith, ltb-false 8 (suc (suc (suc (suc (suc (suc (suc (suc (suc t))))))))) n))
+rewritten t p h n =
+    by-tag (λ t. encodeOutcome (entryFrom t p) ≡ accepted (t * 2 ^ 60 + pick (ltb t 6) p 0))
+    (encode-pair Join 0 p h (λ a b e. rw e)) (encode-pair Split 1 p h (λ a b e. rw e)) refl refl refl refl refl refl refl t n
 
 pub decoded-encodes : (at w : ℕ) (e : MastNodeEntry) → decodeOutcome at w ≡ accepted e → encodeOutcome e ≡ accepted (canonical w)
 unfolding decodeOutcome decodeRules entryOf badTag
 decoded-encodes at w e said =
     let k = accepted-none (decodeRules at w) (entryOf w) e said in
-    rw (← k .1) (rewritten (tagOf w) (payloadOf w) (omega arith) (k .0 .0))
+    rw (← k .1) (rewritten (tagOf w) (payloadOf w) (omega arith) (ltb-false 8 (tagOf w) (k .0 .0)))
+
+-- so its word is that form
+pub decoded-word : (at w : ℕ) (e : MastNodeEntry) → decodeOutcome at w ≡ accepted e → wordOf e ≡ canonical w
+unfolding encodeOutcome
+decoded-word at w e said = accepted-none (rule PAYLOAD 0 (wideIds e) ∷ []) (wordOf e) (canonical w) (decoded-encodes at w e said) .1
 
 -- ---- canonical words
 

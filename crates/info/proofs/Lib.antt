@@ -1,4 +1,5 @@
 pub mod Arms
 pub mod Cases
+pub mod NodeLaws
 pub mod Laws
 pub mod Answers

@@ -1,14 +1,14 @@
 -- The 8-byte node entry: the top 4 of 64 bits are the tag, the 60 below are the payload.
-use Prim.Native.Nat.{ℕ, _+_, _-_, _*_, _/_, _%_, _^_, _<_}
-use mathlib.Core.Bool.{Bool, true, false, _&&_, _||_}
+use Prim.Native.Nat.{ℕ, _+_, _-_, _*_, _/_, _%_, _^_}
+use mathlib.Core.Bool.{Bool, false, _&&_, _||_}
 use mathlib.Core.List.{List, [], _∷_}
 use lib.Dec.{ltb, leb}
-use lib.ListN.{getD}
 use Rattle.wire.specs.Table.{Rule, rule, Outcome, pick, firstMet, At}
 use Rattle.wire.specs.Refusals.{TAG, PAYLOAD}
 use Rattle.wire.specs.Le.{leAt, shortRule}
+use Rattle.wire.specs.Rows.{Below}
 use Rattle.info.specs.declared.MastNodeEntry.{MastNodeEntry}
-use Rattle.info.specs.declared.MastNodeEntry.the-variants.{Join, Split, Loop, Block, Call, SysCall, Dyn, Dyncall, External}
+use Rattle.info.specs.Node.{kindOf, numbersOf, entryWith}
 
 abbrev pub tagOf : ℕ → ℕ
 tagOf w = w / 2 ^ 60
@@ -18,23 +18,13 @@ payloadOf w = w % 2 ^ 60
 
 -- ---- reading
 
--- what each tag makes of the payload, from tag 0 on: two ids of 30 bits, left one higher; one number; nothing
-abbrev pub kinds : List (ℕ → MastNodeEntry)
-kinds =
-    (λ p. Join (p / 2 ^ 30) (p % 2 ^ 30))
-    ∷ (λ p. Split (p / 2 ^ 30) (p % 2 ^ 30))
-    ∷ Loop
-    ∷ Block
-    ∷ Call
-    ∷ SysCall
-    ∷ (λ p. Dyn)
-    ∷ (λ p. Dyncall)
-    ∷ (λ p. External)
-    ∷ []
+-- the entry of a tag and a payload: Join and Split have two ids of 30 bits, left one higher; the others take all of it as one number, or leave it
+abbrev pub entryFrom : ℕ → ℕ → MastNodeEntry
+entryFrom t p = entryWith t (pick (ltb t 2) (p / 2 ^ 30) p) (p % 2 ^ 30)
 
--- the entry of a word; past the last kind TAG has refused
+-- the entry of a word; past the last tag TAG has refused
 unfoldable pub entryOf : ℕ → MastNodeEntry
-entryOf w = getD kinds (tagOf w) (λ p. External) (payloadOf w)
+entryOf w = entryFrom (tagOf w) (payloadOf w)
 
 -- tags 9 to 15
 unfoldable pub badTag : ℕ → Bool
@@ -58,45 +48,29 @@ entryRules s at = shortRule s at 8 ∷ decodeRules at (leAt s at 8)
 unfoldable pub entryOutcome : List ℕ → ℕ → Outcome (At MastNodeEntry)
 entryOutcome s at = firstMet (entryRules s at) (record { value = entryOf (leAt s at 8); next = at + 8 })
 
-abbrev pub isExternal : MastNodeEntry → Bool
-isExternal (Join left right) = false
-isExternal (Split then else) = false
-isExternal (Loop body) = false
-isExternal (Block offset) = false
-isExternal (Call callee) = false
-isExternal (SysCall callee) = false
-isExternal Dyn = false
-isExternal Dyncall = false
-isExternal External = true
-
 -- ---- writing
 
--- the word of an entry; Dyn, Dyncall and External have no payload
+-- the payload of an entry's numbers; Dyn, Dyncall and External have none
+abbrev pub payloadWith : List ℕ → ℕ
+payloadWith [] = 0
+payloadWith (a ∷ []) = a
+payloadWith (a ∷ (b ∷ more)) = a * 2 ^ 30 + b
+
 abbrev pub wordOf : MastNodeEntry → ℕ
-wordOf (Join left right) = 0 * 2 ^ 60 + (left * 2 ^ 30 + right)
-wordOf (Split then else) = 1 * 2 ^ 60 + (then * 2 ^ 30 + else)
-wordOf (Loop body) = 2 * 2 ^ 60 + body
-wordOf (Block offset) = 3 * 2 ^ 60 + offset
-wordOf (Call callee) = 4 * 2 ^ 60 + callee
-wordOf (SysCall callee) = 5 * 2 ^ 60 + callee
-wordOf Dyn = 6 * 2 ^ 60
-wordOf Dyncall = 7 * 2 ^ 60
-wordOf External = 8 * 2 ^ 60
+wordOf e = kindOf e * 2 ^ 60 + payloadWith (numbersOf e)
 
 -- an id of 2 ^ 30 or more
 abbrev pub wideId : ℕ → Bool
 wideId id = leb (2 ^ 30) id
 
+-- one of two
+abbrev pub widePair : List ℕ → Bool
+widePair [] = false
+widePair (a ∷ []) = false
+widePair (a ∷ (b ∷ more)) = wideId a || wideId b
+
 abbrev pub wideIds : MastNodeEntry → Bool
-wideIds (Join left right) = wideId left || wideId right
-wideIds (Split then else) = wideId then || wideId else
-wideIds (Loop body) = false
-wideIds (Block offset) = false
-wideIds (Call callee) = false
-wideIds (SysCall callee) = false
-wideIds Dyn = false
-wideIds Dyncall = false
-wideIds External = false
+wideIds e = widePair (numbersOf e)
 
 -- an id of 2 ^ 30 or more in Join or Split: PAYLOAD [0]
 unfoldable pub encodeOutcome : MastNodeEntry → Outcome ℕ
@@ -112,12 +86,4 @@ pairOutcome tag left right = firstMet (rule PAYLOAD 0 (wideId left || wideId rig
 
 -- The numbers of an entry are of 32 bits, as the code holds them.
 abbrev pub Held : MastNodeEntry → Type 0
-Held (Join a b) = (a < 2 ^ 32) × (b < 2 ^ 32)
-Held (Split a b) = (a < 2 ^ 32) × (b < 2 ^ 32)
-Held (Loop a) = a < 2 ^ 32
-Held (Block a) = a < 2 ^ 32
-Held (Call a) = a < 2 ^ 32
-Held (SysCall a) = a < 2 ^ 32
-Held Dyn = Unit {0}
-Held Dyncall = Unit {0}
-Held External = Unit {0}
+Held e = Below (2 ^ 32) (numbersOf e)

@@ -1,5 +1,7 @@
-// The 8-byte node entry: decoded from a word, encoded to one, read at a place of a file.
-// What each function promises is in specs/Entry.antt and specs/Shown.antt.
+// The 8-byte node entry: decoded from a word, encoded to one, read at a place of a file. What else is asked of a node is in
+// node.rt. What each function promises is in specs/.
+pub mod node;
+
 use wire::number::is_short;
 use wire::number::u64_at;
 use wire::refusal::Refusal;

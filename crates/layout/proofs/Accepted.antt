@@ -2,27 +2,23 @@
 -- reads, and as many are External as the layout says; and the index readers answer.
 -- Assumes nothing.
 use mathlib.Core.Path.{_≡_, refl, sym, ap, _∙_}
-use mathlib.Core.Bool.{Bool, true, false}
+use mathlib.Core.Bool.{Bool, false}
 use mathlib.Core.List.{List, [], _∷_}
-use mathlib.Core.Logic.{_⊎_, inl, inr}
-use Prim.Native.Nat.{ℕ, zero, suc, _+_, _-_, _*_, _^_, _≤_, _<_}
-use native.Mathlib.Decide.{ℕ-discrete}
+use Prim.Native.Nat.{ℕ, _+_, _-_, _*_, _^_, _≤_, _<_}
 use native.Mathlib.Omega.{arith}
-use borrow.Author.Tests.{le-ltb, leb-true, leb-false, eqb-true, not-false}
-use lib.Dec.{leb, eqb}
+use borrow.Author.Tests.{le-ltb, eqb-true, not-false}
+use lib.Dec.{eqb}
 use lib.ListN.{length}
-use Rattle.wire.specs.Table.{Rule, rule, Outcome, refused, accepted, pick, firstMet, _>>=_, noneMet, At}
+use Rattle.wire.specs.Table.{Outcome, refused, accepted, noneMet}
 use Rattle.wire.specs.Refusals.{ROOT-ID}
 use Rattle.wire.specs.Le.{leAt, isShort}
 use Rattle.wire.specs.Counts.{counted, countRule, countOutcome, Reads}
-use Rattle.wire.specs.declared.count.Count.{Count}
-use Rattle.wire.proofs.Tables.{accepted-none, none-accepted, none-parts}
-use Rattle.wire.proofs.Stages.{both-taken}
+use Rattle.wire.proofs.Tables.{none-accepted, none-parts}
 use Rattle.info.specs.declared.MastNodeEntry.{MastNodeEntry}
-use Rattle.layout.specs.Facts.{hashBytes}
-use Rattle.rows.specs.Rows.{rowOver, rowOutcome, externalOne, entryPass}
-use Rattle.layout.specs.Scan.{wordsRules, externals, sectionAt, isHashless, internal, externalAt, external, nodes, rootsAt, roots as rootsOf, blocksAt, blocks as blocksOf, entriesAt, words, scanRules, layoutShown}
-use Rattle.layout.specs.Steps.{entryRules}
+use Rattle.rows.specs.Rows.{rowOver, rowOutcome, countExternal}
+use Rattle.rows.proofs.Pass.{pass-each}
+use Rattle.layout.specs.Scan.{wordsRules, externals, internal, externalAt, external, nodes, rootsAt, roots as rootsOf, blocksAt, blocks as blocksOf, entriesAt, words, scanRules, layoutShown}
+use Rattle.layout.specs.Steps.{entrySectionRules}
 use Rattle.layout.specs.Accepted.{EndToEnd, Counted}
 use Rattle.layout.specs.Index.{rootAt, rootOutcome, nodeOutcome}
 use Rattle.layout.specs.declared.facts.FormatFacts.{FormatFacts}
@@ -31,18 +27,6 @@ use Rattle.layout.specs.declared.forest.ForestLayout.{ForestLayout}
 use Rattle.layout.proofs.Entries.{atByte, words-pass}
 use Rattle.layout.proofs.Split.{count-1, count-2, count-3, count-4, maximum, roots-there, sections-there, entries-clean}
 use Rattle.layout.proofs.IndexLaws.{node-row, root-high, root-found}
-
--- a pass that is clean has an entry in each row
-pub each-row : (read : ℕ → Outcome MastNodeEntry) (n x i : ℕ) → entryPass read n ≡ accepted x → i < n → (e : MastNodeEntry) × (read i ≡ accepted e)
-unfolding entryPass
-each-row read zero x i q h = absurd (omega arith)
-each-row read (suc n) x i q h =
-    let all = both-taken (entryPass read n) (λ y. read n >>= (λ e. accepted (y + externalOne e))) x q in
-    let last = both-taken (read n) (λ e. accepted (all .0 + externalOne e)) x (all .2) in
-    elim (ℕ-discrete i n) [
-      | yes d ↦ (last .0, rw d (last .1))
-      | no d ↦ each-row read n (all .0) i (all .1) (omega arith)
-    ]
 
 -- row numbers and byte places agree where nothing is refused
 at-byte : (first x : ℕ) (o : Outcome ℕ) → atByte first o ≡ accepted x → o ≡ accepted x
@@ -79,7 +63,7 @@ module _ (f : FormatFacts) (s : List ℕ) (allow : Bool) (bound : Bound) (unmet 
 
   -- the rules of the words, and then the number of externals
   clean : noneMet (wordsRules 8 (entriesAt f s) (words f s)) × (externals (words f s) ≡ external f s .value)
-  unfolding entryRules
+  unfolding entrySectionRules
   clean =
       let last = none-parts (wordsRules 8 (entriesAt f s) (words f s)) _ (entries-clean f s allow bound unmet) in
       (last .0, eqb-true (externals (words f s)) (external f s .value) (not-false (eqb (externals (words f s)) (external f s .value)) (last .1 .0)))
@@ -100,20 +84,14 @@ module _ (f : FormatFacts) (s : List ℕ) (allow : Bool) (bound : Bound) (unmet 
     -- the entry is answered at every index below the node count
     pub node-answers : (i : ℕ) → i < l .«node_count» → (e : MastNodeEntry) × (nodeOutcome s l i ≡ accepted e)
     node-answers i h =
-        let row = each-row (rowOutcome s (l .«node_entry_offset» .0)) (l .«node_count») (l .«external_node_count» .0) i (all-counted .pass) h in
-        (row .0, node-row s l i h ∙ row .1)
+        let row = pass-each (rowOutcome s (l .«node_entry_offset» .0)) countExternal 0 (l .«node_count») (l .«external_node_count» .0) (all-counted .pass) i h in
+        (row .entry, node-row s l i h ∙ row .read-as)
 
-    -- the root at every index below the number of roots, unless it names no node
+    -- the root at every index below the number of roots, or ROOT-ID exactly if it names no node
     pub root-answers : (i : ℕ) → i < l .«roots_count»
-        → (rootOutcome s l i ≡ accepted (leAt s (rootAt s l i) 4)) ⊎ (rootOutcome s l i ≡ refused ROOT-ID i)
+        → (leAt s (rootAt s l i) 4 < l .«node_count» → rootOutcome s l i ≡ accepted (leAt s (rootAt s l i) 4)) × (l .«node_count» ≤ leAt s (rootAt s l i) 4 → rootOutcome s l i ≡ refused ROOT-ID i)
     root-answers i h =
         let rows : l .«roots_offset» .0 + 4 * l .«roots_count» ≤ length s = roots-there f s allow bound unmet in
         let low : rowOver (l .«roots_offset» .0) 4 i ≡ false = le-ltb (2 ^ 64 - 1) (l .«roots_offset» .0 + 4 * i + 4) (omega arith) in
         let whole : isShort s (rootAt s l i) 4 ≡ false = le-ltb (length s) (l .«roots_offset» .0 + 4 * i + 4) (omega arith) in
-        go low whole (leb (l .«node_count») (leAt s (rootAt s l i) 4)) refl
-      where
-        go : rowOver (l .«roots_offset» .0) 4 i ≡ false → isShort s (rootAt s l i) 4 ≡ false
-            → (t : Bool) → leb (l .«node_count») (leAt s (rootAt s l i) 4) ≡ t
-            → (rootOutcome s l i ≡ accepted (leAt s (rootAt s l i) 4)) ⊎ (rootOutcome s l i ≡ refused ROOT-ID i)
-        go low whole true e = inr (root-high s l i h low whole (leb-true (l .«node_count») (leAt s (rootAt s l i) 4) e))
-        go low whole false e = inl (root-found s l i h low whole (leb-false (l .«node_count») (leAt s (rootAt s l i) 4) e))
+        (root-found s l i h low whole, root-high s l i h low whole)

@@ -10,18 +10,18 @@ use borrow.Author.Tests.{eq-eqb, ne-eqb}
 use lib.Dec.{eqb}
 use lib.ListN.{length, length-append}
 use lib.Seq.{slice}
-use Rattle.wire.specs.Table.{Rule, rule, Outcome, refused, accepted, pick, firstMet, checked, _>>=_}
+use Rattle.wire.specs.Table.{rule, Outcome, refused, accepted, pick, firstMet, checked, _>>=_}
 use Rattle.wire.specs.Refusals.{TAG, PAYLOAD, EXTERNALS}
 use Rattle.wire.specs.Le.{leAt}
 use Rattle.wire.specs.Rows.{numbersOf}
 use Rattle.wire.proofs.Tables.{replaced-refused}
 use Rattle.wire.proofs.Stages.{in-turn, in-the-end}
 use Rattle.wire.proofs.Words.{rows-next}
-use Rattle.info.specs.Entry.{entryOf, isExternal, badTag, badPayload, decodeRules, decodeOutcome}
+use Rattle.info.specs.Entry.{entryOf, badTag, badPayload, decodeRules, decodeOutcome}
 use Rattle.info.specs.declared.MastNodeEntry.{MastNodeEntry}
-use Rattle.rows.specs.Rows.{rowWord, rowRules, rowOutcome, externalOne, entryPass}
+use Rattle.rows.specs.Rows.{rowWord, rowRules, rowOutcome, nodePass, externalOne, countExternal, entryPass}
 use Rattle.layout.specs.Scan.{wordsRules, externals}
-use Rattle.layout.specs.Steps.{wordsAt, entryRules}
+use Rattle.layout.specs.Steps.{wordsAt, entrySectionRules}
 use Rattle.rows.proofs.RowLaws.{inside-row}
 
 -- ---- one word more at the end
@@ -79,13 +79,13 @@ atByte first (refused k i) = refused k (first + 8 * i)
 atByte first (accepted x) = accepted x
 
 word-at-byte : (first n w x : ℕ)
-    → (decodeOutcome (first + 8 * n) w >>= (λ e. accepted (x + externalOne e))) ≡ atByte first (decodeOutcome n w >>= (λ e. accepted (x + externalOne e)))
+    → (decodeOutcome (first + 8 * n) w >>= countExternal n x) ≡ atByte first (decodeOutcome n w >>= countExternal n x)
 unfolding decodeOutcome decodeRules firstMet _>>=_
 word-at-byte first n w x = go (badTag w) (badPayload w)
   where
     go : (t p : Bool)
-        → ((pick {A = Outcome MastNodeEntry} t (refused TAG (first + 8 * n)) (pick p (refused PAYLOAD (first + 8 * n)) (accepted (entryOf w)))) >>= (λ e. accepted (x + externalOne e)))
-        ≡ atByte first ((pick {A = Outcome MastNodeEntry} t (refused TAG n) (pick p (refused PAYLOAD n) (accepted (entryOf w)))) >>= (λ e. accepted (x + externalOne e)))
+        → ((pick {A = Outcome MastNodeEntry} t (refused TAG (first + 8 * n)) (pick p (refused PAYLOAD (first + 8 * n)) (accepted (entryOf w)))) >>= countExternal n x)
+        ≡ atByte first ((pick {A = Outcome MastNodeEntry} t (refused TAG n) (pick p (refused PAYLOAD n) (accepted (entryOf w)))) >>= countExternal n x)
     go true p = refl
     go false true = refl
     go false false = refl
@@ -94,28 +94,27 @@ module _ (s : List ℕ) (first : ℕ) (fits : length s < 2 ^ 64) where
   abbrev ofWords : List ℕ → Outcome ℕ
   ofWords ws = firstMet (wordsRules 8 first ws) (externals ws)
 
-  one-more : (ws : List ℕ) (w : ℕ) → ofWords (ws ++ (w ∷ [])) ≡ (ofWords ws >>= (λ x. decodeOutcome (first + 8 * length ws) w >>= (λ e. accepted (x + externalOne e))))
+  one-more : (ws : List ℕ) (w : ℕ) → ofWords (ws ++ (w ∷ [])) ≡ (ofWords ws >>= (λ x. decodeOutcome (first + 8 * length ws) w >>= countExternal (length ws) x))
   unfolding decodeOutcome
   one-more ws w =
       rw (rules-last first ws w, externals-last ws w)
       (in-turn (wordsRules 8 first ws) (externals ws) (λ _. decodeRules (first + 8 * length ws) w) (λ x. x + externalOne (entryOf w)) _
       (λ x. in-the-end (decodeRules (first + 8 * length ws) w) (entryOf w) (λ e. x + externalOne e)))
 
-  step : (n w : ℕ) (o : Outcome ℕ)
-      → (atByte first o >>= (λ x. decodeOutcome (first + 8 * n) w >>= (λ e. accepted (x + externalOne e))))
-      ≡ atByte first (o >>= (λ x. decodeOutcome n w >>= (λ e. accepted (x + externalOne e))))
+  step : (n w : ℕ) (row : Outcome MastNodeEntry) → row ≡ decodeOutcome n w → (o : Outcome ℕ)
+      → (atByte first o >>= (λ x. decodeOutcome (first + 8 * n) w >>= countExternal n x)) ≡ atByte first (o >>= (λ x. row >>= countExternal n x))
   unfolding _>>=_
-  step n w (refused k i) = refl
-  step n w (accepted x) = word-at-byte first n w x
+  step n w row e (refused k i) = refl
+  step n w row e (accepted x) = rw e (word-at-byte first n w x)
 
   -- the words' rules say what the pass says
   pub words-pass : (n : ℕ) → first + 8 * n ≤ length s → ofWords (wordsAt s first n) ≡ atByte first (entryPass (rowOutcome s first) n)
-  unfolding entryPass wordsRules externals firstMet
+  unfolding nodePass wordsRules externals firstMet
   words-pass zero h = rw (words-none s first)
   words-pass (suc n) h =
       let below : first + 8 * n ≤ length s = omega arith in
-      rw (words-last s first n h, one-more (wordsAt s first n) (rowWord s first n), words-long s first n below, words-pass n below, inside-row s first n (suc n) h fits (omega arith))
-      (step n (rowWord s first n) (entryPass (rowOutcome s first) n))
+      rw (words-last s first n h, one-more (wordsAt s first n) (rowWord s first n), words-long s first n below, words-pass n below)
+      (step n (rowWord s first n) (rowOutcome s first n) (inside-row s first n (suc n) h fits (omega arith)) (entryPass (rowOutcome s first) n))
 
 -- ---- the stage of the entries
 
@@ -127,35 +126,35 @@ row-place s first i k p e =
     cc
 
 pub pass-row : (s : List ℕ) (first n k p : ℕ) → entryPass (rowOutcome s first) n ≡ refused k p → p < n
-unfolding entryPass _>>=_
+unfolding nodePass _>>=_
 pass-row s first zero k p e = let z : _≡_ {A = ℕ} 0 1 = cc in absurd (omega arith)
 pass-row s first (suc n) k p e = go (entryPass (rowOutcome s first) n) (λ q. pass-row s first n k p q) e
   where
-    last : (o : Outcome MastNodeEntry) (x : ℕ) → (o ≡ refused k p → p ≡ n) → (o >>= (λ e. accepted (x + externalOne e))) ≡ refused k p → p < suc n
+    last : (o : Outcome MastNodeEntry) (x : ℕ) → (o ≡ refused k p → p ≡ n) → (o >>= countExternal n x) ≡ refused k p → p < suc n
     last (refused a b) x h q = omega (arith, h (cc))
     last (accepted e) x h q = let z : _≡_ {A = ℕ} 0 1 = cc in absurd (omega arith)
 
-    go : (o : Outcome ℕ) → (o ≡ refused k p → p < n) → (o >>= (λ x. rowOutcome s first n >>= (λ e. accepted (x + externalOne e)))) ≡ refused k p → p < suc n
+    go : (o : Outcome ℕ) → (o ≡ refused k p → p < n) → (o >>= (λ x. rowOutcome s first n >>= countExternal n x)) ≡ refused k p → p < suc n
     go (refused a b) h q = omega (arith, h (cc))
     go (accepted x) h q = last (rowOutcome s first n) x (row-place s first n k p) q
 
-module _ (s : List ℕ) (first n external middle : ℕ) (inside : first + 8 * n ≤ length s) (fits : length s < 2 ^ 64) where
+module _ (s : List ℕ) (first n external externalAt : ℕ) (inside : first + 8 * n ≤ length s) (fits : length s < 2 ^ 64) where
   -- the pass, and then the number of externals
-  stage : checked (entryRules first n external middle s)
-      ≡ (atByte first (entryPass (rowOutcome s first) n) >>= (λ x. checked (rule EXTERNALS middle (not (eqb x external)) ∷ [])))
-  unfolding entryRules
+  stage : checked (entrySectionRules first n external externalAt s)
+      ≡ (atByte first (entryPass (rowOutcome s first) n) >>= (λ x. checked (rule EXTERNALS externalAt (not (eqb x external)) ∷ [])))
+  unfolding entrySectionRules
   stage =
-      in-turn (wordsRules 8 first (wordsAt s first n)) (externals (wordsAt s first n)) (λ x. rule EXTERNALS middle (not (eqb x external)) ∷ []) (λ _. tt) _ (λ x. refl)
+      in-turn (wordsRules 8 first (wordsAt s first n)) (externals (wordsAt s first n)) (λ x. rule EXTERNALS externalAt (not (eqb x external)) ∷ []) (λ _. tt) _ (λ x. refl)
       ∙ rw (words-pass s first fits n inside)
 
-  pub entries-refused : (k i : ℕ) → entryPass (rowOutcome s first) n ≡ refused k i → checked (entryRules first n external middle s) ≡ refused k (first + 8 * i)
+  pub entries-refused : (k i : ℕ) → entryPass (rowOutcome s first) n ≡ refused k i → checked (entrySectionRules first n external externalAt s) ≡ refused k (first + 8 * i)
   unfolding _>>=_
   entries-refused k i e = stage ∙ rw e
 
-  pub entries-differ : (x : ℕ) → entryPass (rowOutcome s first) n ≡ accepted x → (x ≡ external → ⊥) → checked (entryRules first n external middle s) ≡ refused EXTERNALS middle
+  pub entries-differ : (x : ℕ) → entryPass (rowOutcome s first) n ≡ accepted x → (x ≡ external → ⊥) → checked (entrySectionRules first n external externalAt s) ≡ refused EXTERNALS externalAt
   unfolding _>>=_ firstMet
   entries-differ x e d = stage ∙ rw (e, ne-eqb x external d)
 
-  pub entries-pass : (x : ℕ) → entryPass (rowOutcome s first) n ≡ accepted x → x ≡ external → checked (entryRules first n external middle s) ≡ accepted tt
+  pub entries-pass : (x : ℕ) → entryPass (rowOutcome s first) n ≡ accepted x → x ≡ external → checked (entrySectionRules first n external externalAt s) ≡ accepted tt
   unfolding _>>=_ firstMet
   entries-pass x e d = stage ∙ rw (e, eq-eqb x external d)

@@ -16,7 +16,7 @@ use Rattle.wire.proofs.Stages.{in-turn, in-the-end}
 use Rattle.layout.specs.Facts.{share, badFormat}
 use Rattle.layout.specs.Scan.{scanRules, scanOutcome}
 use Rattle.layout.proofs.Tests.{or-right}
-use Rattle.layout.specs.Steps.{preambleRules, markRules, sizeRules, budgetRules, rootRules, sectionRules, entryRules, fixedOf, layoutOf, entriesOutcome, blocksOutcome, rootsOutcome, sizedOutcome, countsOutcome, stagesOutcome}
+use Rattle.layout.specs.Steps.{preambleRules, markRules, sizeRules, budgetRules, rootSectionRules, sectionRules, entrySectionRules, fixedOf, layoutOf, entriesOutcome, blocksOutcome, rootsOutcome, sizedOutcome, countsOutcome, stagesOutcome}
 use Rattle.layout.specs.declared.facts.FormatFacts.{FormatFacts}
 use Rattle.layout.specs.declared.facts.Bound.{Bound}
 use Rattle.layout.specs.declared.forest.ForestLayout.{ForestLayout}
@@ -32,12 +32,12 @@ module _ (bound : Bound) (s : List ℕ) where
   sectionOf c = record { count = c .value .value; at = record { 0 = c .next } }
 
   abbrev headOf : Bool → At Count → At Count → Head
-  headOf hashless i e = record { hashless = hashless; internal = i .value .value; external = e .value .value; middle = record { 0 = i .next }; next = record { 0 = e .next } }
+  headOf hashless i e = record { hashless = hashless; internal = i .value .value; external = e .value .value; «external_at» = record { 0 = i .next }; «roots_at» = record { 0 = e .next } }
 
   -- the rules from a stage on
   module _ (h : Head) where
     abbrev entriesOn : Section → Section → List Rule
-    entriesOn roots blocks = entryRules (blocks .at .0 + blocks .count) (h .internal + h .external) (h .external) (h .middle .0) s
+    entriesOn roots blocks = entrySectionRules (blocks .at .0 + blocks .count) (h .internal + h .external) (h .external) (h .«external_at» .0) s
 
     abbrev start : Section → ℕ
     start roots = roots .at .0 + 4 * roots .count
@@ -47,7 +47,7 @@ module _ (bound : Bound) (s : List ℕ) where
 
     abbrev rootsOn : At Count → List Rule
     rootsOn c =
-        rootRules bound (h .next .0) (c .value .value) (c .next) s
+        rootSectionRules bound (h .«roots_at» .0) (c .value .value) (c .next) s
         ++ ((countRule s (start (sectionOf c)) ∷ []) ++ blocksOn (sectionOf c) (countAt (start (sectionOf c))))
 
     entries-split : (roots blocks : Section) → firstMet (entriesOn roots blocks) (layoutOf h roots blocks) ≡ entriesOutcome h roots blocks s
@@ -66,11 +66,11 @@ module _ (bound : Bound) (s : List ℕ) where
     abbrev layoutFrom : At Count → ForestLayout
     layoutFrom c = layoutOf h (sectionOf c) (sectionOf (countAt (start (sectionOf c))))
 
-    roots-split : firstMet ((countRule s (h .next .0) ∷ []) ++ rootsOn (countAt (h .next .0))) (layoutFrom (countAt (h .next .0))) ≡ rootsOutcome bound h s
+    roots-split : firstMet ((countRule s (h .«roots_at» .0) ∷ []) ++ rootsOn (countAt (h .«roots_at» .0))) (layoutFrom (countAt (h .«roots_at» .0))) ≡ rootsOutcome bound h s
     unfolding rootsOutcome countOutcome
     roots-split =
-        in-turn (countRule s (h .next .0) ∷ []) (countAt (h .next .0)) rootsOn layoutFrom _
-        (λ c. in-turn (rootRules bound (h .next .0) (c .value .value) (c .next) s) tt
+        in-turn (countRule s (h .«roots_at» .0) ∷ []) (countAt (h .«roots_at» .0)) rootsOn layoutFrom _
+        (λ c. in-turn (rootSectionRules bound (h .«roots_at» .0) (c .value .value) (c .next) s) tt
         (λ _. (countRule s (start (sectionOf c)) ∷ []) ++ blocksOn (sectionOf c) (countAt (start (sectionOf c)))) (λ _. layoutFrom c) _
         (λ _. blocks-split (sectionOf c)))
 
@@ -78,17 +78,17 @@ module _ (bound : Bound) (s : List ℕ) where
     abbrev sizedOn : Head → List Rule
     sizedOn h =
         sizeRules f (h .internal) (h .external)
-        ++ (budgetRules bound (h .hashless) (h .internal) (h .external) ++ ((countRule s (h .next .0) ∷ []) ++ rootsOn h (countAt (h .next .0))))
+        ++ (budgetRules bound (h .hashless) (h .internal) (h .external) ++ ((countRule s (h .«roots_at» .0) ∷ []) ++ rootsOn h (countAt (h .«roots_at» .0))))
 
     abbrev layoutAt : Head → ForestLayout
-    layoutAt h = layoutFrom h (countAt (h .next .0))
+    layoutAt h = layoutFrom h (countAt (h .«roots_at» .0))
 
     sized-split : (h : Head) → firstMet (sizedOn h) (layoutAt h) ≡ sizedOutcome f bound h s
     unfolding sizedOutcome
     sized-split h =
         in-turn (sizeRules f (h .internal) (h .external)) tt
-        (λ _. budgetRules bound (h .hashless) (h .internal) (h .external) ++ ((countRule s (h .next .0) ∷ []) ++ rootsOn h (countAt (h .next .0)))) (λ _. layoutAt h) _
-        (λ _. in-turn (budgetRules bound (h .hashless) (h .internal) (h .external)) tt (λ _. (countRule s (h .next .0) ∷ []) ++ rootsOn h (countAt (h .next .0))) (λ _. layoutAt h) _
+        (λ _. budgetRules bound (h .hashless) (h .internal) (h .external) ++ ((countRule s (h .«roots_at» .0) ∷ []) ++ rootsOn h (countAt (h .«roots_at» .0)))) (λ _. layoutAt h) _
+        (λ _. in-turn (budgetRules bound (h .hashless) (h .internal) (h .external)) tt (λ _. (countRule s (h .«roots_at» .0) ∷ []) ++ rootsOn h (countAt (h .«roots_at» .0))) (λ _. layoutAt h) _
         (λ _. roots-split h))
 
     abbrev externalOn : At Count → List Rule
@@ -113,7 +113,7 @@ module _ (f : FormatFacts) (s : List ℕ) (allow : Bool) (bound : Bound) where
 
   -- the table is its segments, one after the other
   pub segments : scanRules f s allow bound ≡ preambleRules f s ++ (markRules f allow s ++ countsOn)
-  unfolding scanRules preambleRules markRules sizeRules budgetRules rootRules sectionRules entryRules
+  unfolding scanRules preambleRules markRules sizeRules budgetRules rootSectionRules sectionRules entrySectionRules
   segments = refl
 
   pub split : scanOutcome f s allow bound ≡ stagesOutcome f allow bound s
@@ -131,7 +131,7 @@ module _ (f : FormatFacts) (s : List ℕ) (allow : Bool) (bound : Bound) where
     head = headOf bound s hashlessOf (countAt bound s 8) (countAt bound s (8 + counted s 8 .len))
 
     abbrev roots : At Count
-    roots = countAt bound s (head .next .0)
+    roots = countAt bound s (head .«roots_at» .0)
 
     abbrev blocks : At Count
     blocks = countAt bound s (start bound s head (sectionOf bound s roots))
@@ -142,15 +142,15 @@ module _ (f : FormatFacts) (s : List ℕ) (allow : Bool) (bound : Bound) where
     rest : noneMet countsOn
     rest = none-parts (markRules f allow s) countsOn (after-preamble .1) .1
 
-    after-sizes : noneMet (sizeRules f (head .internal) (head .external)) × noneMet (budgetRules bound hashlessOf (head .internal) (head .external) ++ ((countRule s (head .next .0) ∷ []) ++ rootsOn bound s head roots))
+    after-sizes : noneMet (sizeRules f (head .internal) (head .external)) × noneMet (budgetRules bound hashlessOf (head .internal) (head .external) ++ ((countRule s (head .«roots_at» .0) ∷ []) ++ rootsOn bound s head roots))
     after-sizes = none-parts (sizeRules f (head .internal) (head .external)) _ (rest .1 .1)
 
-    after-budgets : noneMet ((countRule s (head .next .0) ∷ []) ++ rootsOn bound s head roots)
+    after-budgets : noneMet ((countRule s (head .«roots_at» .0) ∷ []) ++ rootsOn bound s head roots)
     after-budgets = none-parts (budgetRules bound hashlessOf (head .internal) (head .external)) _ (after-sizes .1) .1
 
-    after-roots : noneMet (rootRules bound (head .next .0) (roots .value .value) (roots .next) s)
+    after-roots : noneMet (rootSectionRules bound (head .«roots_at» .0) (roots .value .value) (roots .next) s)
         × noneMet ((countRule s (start bound s head (sectionOf bound s roots)) ∷ []) ++ blocksOn bound s head (sectionOf bound s roots) blocks)
-    after-roots = none-parts (rootRules bound (head .next .0) (roots .value .value) (roots .next) s) _ (after-budgets .1)
+    after-roots = none-parts (rootSectionRules bound (head .«roots_at» .0) (roots .value .value) (roots .next) s) _ (after-budgets .1)
 
     after-sections : noneMet (sectionRules bound (start bound s head (sectionOf bound s roots)) (blocks .value .value) (blocks .next) (fixedOf head) s)
         × noneMet (entriesOn bound s head (sectionOf bound s roots) (sectionOf bound s blocks))
@@ -163,7 +163,7 @@ module _ (f : FormatFacts) (s : List ℕ) (allow : Bool) (bound : Bound) where
     pub count-2 : countRule s (8 + counted s 8 .len) .met ≡ false
     count-2 = rest .1 .0
 
-    pub count-3 : countRule s (head .next .0) .met ≡ false
+    pub count-3 : countRule s (head .«roots_at» .0) .met ≡ false
     count-3 = after-budgets .0
 
     pub count-4 : countRule s (start bound s head (sectionOf bound s roots)) .met ≡ false
@@ -177,7 +177,7 @@ module _ (f : FormatFacts) (s : List ℕ) (allow : Bool) (bound : Bound) where
     )
 
     pub roots-there : roots .next + 4 * roots .value .value ≤ length s
-    unfolding rootRules
+    unfolding rootSectionRules
     roots-there = ltb-false (length s) (roots .next + 4 * roots .value .value) (after-roots .0 .1 .1 .0)
 
     pub sections-there : blocks .next + (blocks .value .value + fixedOf head) ≤ length s

@@ -2,7 +2,7 @@
 -- Assumes nothing.
 use Prim.Native.Nat.{ℕ, _+_, _*_, _^_, _≤_, _<_}
 use native.Mathlib.Omega.{arith}
-use mathlib.Core.Path.{_≡_, refl, sym, ap, _∙_}
+use mathlib.Core.Path.{_≡_, sym, ap, _∙_}
 use mathlib.Core.Bool.{not, _||_}
 use mathlib.Core.List.{List}
 use lib.Count.{ones}
@@ -18,7 +18,7 @@ use Rattle.wire.proofs.Stages.{stops, goes-on}
 use Rattle.wire.proofs.Answers.{count-stops, count-goes-on}
 use Rattle.layout.specs.Facts.{share, badFormat}
 use Rattle.layout.proofs.Tests.{or-right}
-use Rattle.layout.specs.Steps.{preambleRules, sizeRules, rootRules, sectionRules}
+use Rattle.layout.specs.Steps.{preambleRules, sizeRules, rootSectionRules, sectionRules}
 use Rattle.layout.specs.Shown.{shownCheck}
 use Rattle.layout.specs.declared.facts.FormatFacts.{FormatFacts}
 use Rattle.layout.specs.declared.facts.Bound.{Bound}
@@ -58,9 +58,9 @@ unfolding sizeRules
 few-nodes r f i e p said h = omega (arith, ltb-false (f .«max_nodes») (i + e) (passed r (sizeRules f i e) p said .1 .0))
 
 -- the roots are inside the file
-pub roots-inside : (r : Check) (bound : Bound) (start n at : ℕ) (s : List ℕ) → r ≡ check.Pass → shownCheck r ≡ checked (rootRules bound start n at s) → at + 4 * n ≤ length s
-unfolding rootRules
-roots-inside r bound start n at s p said = ltb-false (length s) (at + 4 * n) (passed r (rootRules bound start n at s) p said .1 .1 .0)
+pub roots-inside : (r : Check) (bound : Bound) (start n at : ℕ) (s : List ℕ) → r ≡ check.Pass → shownCheck r ≡ checked (rootSectionRules bound start n at s) → at + 4 * n ≤ length s
+unfolding rootSectionRules
+roots-inside r bound start n at s p said = ltb-false (length s) (at + 4 * n) (passed r (rootSectionRules bound start n at s) p said .1 .1 .0)
 
 -- and so are the sections
 pub sections-inside : (r : Check) (bound : Bound) (start n at fixed : ℕ) (s : List ℕ) → r ≡ check.Pass

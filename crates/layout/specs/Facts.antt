@@ -1,6 +1,6 @@
 -- Format facts and the allocation bound.
 use Prim.Native.Nat.{ℕ, _*_, _/_, _^_}
-use mathlib.Core.Bool.{Bool, true, false, not, _||_}
+use mathlib.Core.Bool.{Bool, false, not, _||_}
 use lib.Dec.{ltb, eqb}
 use lib.Count.{ones}
 use lib.Bits.{bitAnd}
@@ -21,10 +21,6 @@ badFormat f = (not (eqb (ones (f .hashless)) 1) || share (f .hashless) (f .reser
 unfoldable pub overBudget : Bound → ℕ → ℕ → Bool
 overBudget None size count = false
 overBudget (Bytes n) size count = ltb (n / size) count
-
--- what is left of the bound once the bytes up to a place are read: all of it
-abbrev pub left : Bound → ℕ → Bound
-left bound read = bound
 
 -- the bytes of the hashes: 32 an internal node, none where the file is hashless
 abbrev pub hashBytes : Bool → ℕ → ℕ

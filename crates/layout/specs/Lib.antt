@@ -1,4 +1,5 @@
 pub mod Facts
+pub mod Given
 pub mod Scan
 pub mod Steps
 pub mod Index

@@ -1,19 +1,20 @@
 -- The scan, in its order: the rules one line each, and what an accepted file's layout is.
 -- Every read is total: past the end a byte reads as 0, and a rule before it has refused.
 use Prim.Native.Nat.{ℕ, _+_, _*_}
-use mathlib.Core.Bool.{Bool, true, false, not, _&&_}
+use mathlib.Core.Bool.{Bool, not, _&&_}
 use mathlib.Core.List.{List, [], _∷_, _++_}
 use lib.Dec.{ltb, eqb}
-use lib.ListN.{length, getD}
+use lib.ListN.{getD}
 use lib.Seq.{slice}
 use Rattle.wire.specs.Table.{Rule, rule, Outcome, pick, firstMet}
-use Rattle.wire.specs.Refusals.{SHORT, MAGIC, VERSION, FLAGS, HASHLESS, OVERFLOW, TOO-MANY, BUDGET, EXTERNALS, FORMAT}
+use Rattle.wire.specs.Refusals.{MAGIC, VERSION, FLAGS, HASHLESS, OVERFLOW, TOO-MANY, BUDGET, EXTERNALS, FORMAT}
 use Rattle.wire.specs.Le.{shortRule, over}
 use Rattle.wire.specs.Counts.{counted, countRule}
 use Rattle.wire.specs.Rows.{numbersOf, differs}
 use Rattle.wire.specs.declared.count.Count.{Count}
-use Rattle.info.specs.Entry.{entryOf, isExternal, decodeRules}
-use Rattle.layout.specs.Facts.{share, badFormat, overBudget, left, hashBytes}
+use Rattle.info.specs.Node.{isExternal}
+use Rattle.info.specs.Entry.{entryOf, decodeRules}
+use Rattle.layout.specs.Facts.{share, badFormat, overBudget, hashBytes}
 use Rattle.layout.specs.declared.facts.FormatFacts.{FormatFacts}
 use Rattle.layout.specs.declared.facts.Bound.{Bound}
 use Rattle.layout.specs.declared.forest.HashSection.{HashSection}
@@ -114,16 +115,16 @@ module _ (f : FormatFacts) (s : List ℕ) where
         ∷ countRule s externalAt
         ∷ rule OVERFLOW 8 (over nodes)
         ∷ rule TOO-MANY 8 (ltb (f .«max_nodes») nodes)
-        ∷ rule BUDGET 8 (overBudget (left bound rootsAt) 8 nodes)
-        ∷ rule BUDGET 8 (overBudget (left bound rootsAt) 32 (external .value))
-        ∷ rule BUDGET 8 (not isHashless && overBudget (left bound rootsAt) 32 (internal .value))
+        ∷ rule BUDGET 8 (overBudget bound 8 nodes)
+        ∷ rule BUDGET 8 (overBudget bound 32 (external .value))
+        ∷ rule BUDGET 8 (not isHashless && overBudget bound 32 (internal .value))
         ∷ countRule s rootsAt
-        ∷ rule BUDGET rootsAt (overBudget (left bound rootRows) 4 (roots .value))
+        ∷ rule BUDGET rootsAt (overBudget bound 4 (roots .value))
         ∷ rule OVERFLOW rootsAt (over (4 * roots .value))
         ∷ shortRule s rootRows (4 * roots .value)
         ∷ countRule s blocksAt
         ∷ rule OVERFLOW blocksAt (over sectionBytes)
-        ∷ rule BUDGET blocksAt (overBudget (left bound blockData) 1 sectionBytes)
+        ∷ rule BUDGET blocksAt (overBudget bound 1 sectionBytes)
         ∷ shortRule s blockData sectionBytes
         ∷ wordsRules 8 entriesAt words
         ++ (rule EXTERNALS externalAt (not (eqb (externals words) (external .value))) ∷ [])

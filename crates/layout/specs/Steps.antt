@@ -1,7 +1,7 @@
 -- Inner contracts only: the scan's table in segments, one for each stage of the code, and the stages in a row. A reader who believes the table
 -- of Scan need not read them: proofs/Split.antt shows that they say what the table says.
 use Prim.Native.Nat.{ℕ, _+_, _*_}
-use mathlib.Core.Bool.{Bool, true, false, not, _&&_}
+use mathlib.Core.Bool.{Bool, not, _&&_}
 use mathlib.Core.List.{List, [], _∷_, _++_}
 use lib.Dec.{ltb, eqb}
 use lib.ListN.{length, getD}
@@ -11,7 +11,7 @@ use Rattle.wire.specs.Refusals.{SHORT, MAGIC, VERSION, FLAGS, HASHLESS, OVERFLO
 use Rattle.wire.specs.Le.{shortRule, over}
 use Rattle.wire.specs.Counts.{countOutcome}
 use Rattle.wire.specs.Rows.{numbersOf, differs}
-use Rattle.layout.specs.Facts.{share, badFormat, overBudget, left, hashBytes}
+use Rattle.layout.specs.Facts.{share, badFormat, overBudget, hashBytes}
 use Rattle.layout.specs.Scan.{wordsRules, externals, sectionAt}
 use Rattle.layout.specs.declared.facts.FormatFacts.{FormatFacts}
 use Rattle.layout.specs.declared.facts.Bound.{Bound}
@@ -50,8 +50,8 @@ budgetRules bound hashless internal external =
     ∷ rule BUDGET 8 (not hashless && overBudget bound 32 internal)
     ∷ []
 
-unfoldable pub rootRules : Bound → ℕ → ℕ → ℕ → List ℕ → List Rule
-rootRules bound start count at s =
+unfoldable pub rootSectionRules : Bound → ℕ → ℕ → ℕ → List ℕ → List Rule
+rootSectionRules bound start count at s =
     rule BUDGET start (overBudget bound 4 count)
     ∷ rule OVERFLOW start (over (4 * count))
     ∷ shortRule s at (4 * count)
@@ -67,9 +67,9 @@ sectionRules bound start count at fixed s =
 abbrev pub wordsAt : List ℕ → ℕ → ℕ → List ℕ
 wordsAt s first n = numbersOf 8 n (slice first (first + 8 * n) s)
 
-unfoldable pub entryRules : ℕ → ℕ → ℕ → ℕ → List ℕ → List Rule
-entryRules first n external middle s =
-    wordsRules 8 first (wordsAt s first n) ++ (rule EXTERNALS middle (not (eqb (externals (wordsAt s first n)) external)) ∷ [])
+unfoldable pub entrySectionRules : ℕ → ℕ → ℕ → ℕ → List ℕ → List Rule
+entrySectionRules first n external externalAt s =
+    wordsRules 8 first (wordsAt s first n) ++ (rule EXTERNALS externalAt (not (eqb (externals (wordsAt s first n)) external)) ∷ [])
 
 -- ---- the values that the stages hand on
 
@@ -100,7 +100,7 @@ layoutOf h roots blocks =
 
 unfoldable pub entriesOutcome : Head → Section → Section → List ℕ → Outcome ForestLayout
 entriesOutcome h roots blocks s =
-    checked (entryRules (blocks .at .0 + blocks .count) (h .internal + h .external) (h .external) (h .middle .0) s)
+    checked (entrySectionRules (blocks .at .0 + blocks .count) (h .internal + h .external) (h .external) (h .«external_at» .0) s)
     >>= (λ _. accepted (layoutOf h roots blocks))
 
 unfoldable pub blocksOutcome : Bound → Head → Section → List ℕ → Outcome ForestLayout
@@ -112,8 +112,8 @@ blocksOutcome bound h roots s =
 
 unfoldable pub rootsOutcome : Bound → Head → List ℕ → Outcome ForestLayout
 rootsOutcome bound h s =
-    countOutcome s (h .next .0)
-    >>= (λ c. checked (rootRules bound (h .next .0) (c .value .value) (c .next) s)
+    countOutcome s (h .«roots_at» .0)
+    >>= (λ c. checked (rootSectionRules bound (h .«roots_at» .0) (c .value .value) (c .next) s)
     >>= (λ _. blocksOutcome bound h (record { count = c .value .value; at = record { 0 = c .next } }) s))
 
 unfoldable pub sizedOutcome : FormatFacts → Bound → Head → List ℕ → Outcome ForestLayout
@@ -128,7 +128,7 @@ countsOutcome f bound hashless s =
     >>= (λ i. countOutcome s (i .next)
     >>= (λ e.
     sizedOutcome f bound
-    (record { hashless = hashless; internal = i .value .value; external = e .value .value; middle = record { 0 = i .next }; next = record { 0 = e .next } })
+    (record { hashless = hashless; internal = i .value .value; external = e .value .value; «external_at» = record { 0 = i .next }; «roots_at» = record { 0 = e .next } })
     s))
 
 unfoldable pub stagesOutcome : FormatFacts → Bool → Bound → List ℕ → Outcome ForestLayout

@@ -2,6 +2,7 @@
 // segment of the table; the functions that run stages promise the stages in a row (specs/Steps.antt).
 use crate::facts::Bound;
 use crate::facts::FormatFacts;
+use crate::facts::are_given;
 use crate::facts::bad_format;
 use crate::facts::over_budget;
 use crate::forest::ForestLayout;
@@ -20,8 +21,9 @@ ghost use lib.ListN.{length};
 ghost use Rattle.wire.specs.Table.{checked};
 ghost use Rattle.wire.specs.Rows.{differs};
 ghost use Rattle.layout.specs.Facts.{hashBytes};
+ghost use Rattle.layout.specs.Given.{Given};
 ghost use Rattle.layout.specs.Scan.{sectionAt, scanOutcome};
-ghost use Rattle.layout.specs.Steps.{preambleRules, markRules, sizeRules, budgetRules, rootRules, sectionRules, entryRules};
+ghost use Rattle.layout.specs.Steps.{preambleRules, markRules, sizeRules, budgetRules, rootSectionRules, sectionRules, entrySectionRules};
 ghost use Rattle.layout.specs.Steps.{fixedOf, layoutOf, countsOutcome, sizedOutcome, rootsOutcome, blocksOutcome, entriesOutcome};
 ghost use Rattle.layout.specs.Shown.{shownScan, shownCheck};
 
@@ -44,8 +46,8 @@ struct Head {
     hashless: bool,
     internal: usize,
     external: usize,
-    middle: ByteOffset,
-    next: ByteOffset,
+    external_at: ByteOffset,
+    roots_at: ByteOffset,
 }
 
 // A section: how many things, and where the first one is.
@@ -146,7 +148,7 @@ fn check_budgets(bound: Bound, hashless: bool, internal: usize, external: usize)
 
 // The roots, whose count starts at `start`.
 fn check_roots(bound: Bound, start: ByteOffset, roots: Section, s: &[u8]) -> Check
-    ensures { λ r. ⌜ shownCheck r ≡ checked (rootRules bound (start .0) (roots .count) (roots .at .0) (now (s .entry))) ⌝ }
+    ensures { λ r. ⌜ shownCheck r ≡ checked (rootSectionRules bound (start .0) (roots .count) (roots .at .0) (now (s .entry))) ⌝ }
 {
     let at = roots.at;
     if over_budget(bound, 4, roots.count) {
@@ -181,14 +183,14 @@ fn check_sections(bound: Bound, start: ByteOffset, blocks: Section, fixed: usize
 // The entries, and whether as many are external as the header says.
 fn check_entries(first: ByteOffset, n: usize, head: Head, s: &[u8]) -> Check
     requires { ⌜ first .0 + 8 * n ≤ length (now s) ⌝ }
-    ensures { λ r. ⌜ shownCheck r ≡ checked (entryRules (first .0) n (head .external) (head .middle .0) (now (s .entry))) ⌝ }
+    ensures { λ r. ⌜ shownCheck r ≡ checked (entrySectionRules (first .0) n (head .external) (head .«external_at» .0) (now (s .entry))) ⌝ }
 {
-    let middle = head.middle;
+    let external_at = head.external_at;
     match read_entries(s, first, n) {
         EntryPass::Refused(why, i) => Check::Refused(why, ByteOffset(first.0 + 8 * i)),
         EntryPass::Clean(externals) => {
             if externals != head.external {
-                return Check::Refused(Refusal::Externals, middle);
+                return Check::Refused(Refusal::Externals, external_at);
             }
             Check::Pass
         }
@@ -293,7 +295,7 @@ fn scan_roots(bound: Bound, head: Head, s: &[u8]) -> Scan
     requires { ⌜ head .internal + head .external ≤ 2 ^ 30 ⌝ }
     ensures { λ r. ⌜ shownScan r ≡ rootsOutcome bound head (now (s .entry)) ⌝ }
 {
-    let start = head.next;
+    let start = head.roots_at;
     match read_count(s, start) {
         CountRead::Refused(why, at) => Scan::Refused(why, at),
         CountRead::Whole(count, rows) => {
@@ -335,17 +337,17 @@ fn scan_counts(f: FormatFacts, bound: Bound, hashless: bool, s: &[u8]) -> Scan
     match read_count(s, ByteOffset(8)) {
         CountRead::Refused(why, at) => Scan::Refused(why, at),
         CountRead::Whole(internal, second) => {
-            let middle = second.at;
-            match read_count(s, middle) {
+            let external_at = second.at;
+            match read_count(s, external_at) {
                 CountRead::Refused(why, at) => Scan::Refused(why, at),
                 CountRead::Whole(external, third) => {
-                    let next = third.at;
+                    let roots_at = third.at;
                     let head = Head {
                         hashless,
                         internal: internal.value as usize,
                         external: external.value as usize,
-                        middle,
-                        next,
+                        external_at,
+                        roots_at,
                     };
                     scan_sized(f, bound, head, s)
                 }
@@ -357,7 +359,9 @@ fn scan_counts(f: FormatFacts, bound: Bound, hashless: bool, s: &[u8]) -> Scan
 // The layout of a file under format facts; whether hashless files are allowed; under a bound.
 pub fn scan_layout(s: &[u8], f: FormatFacts, allow: bool, bound: Bound) -> Scan
     ensures { λ r. ⌜ shownScan r ≡ scanOutcome f (now (s .entry)) allow bound ⌝ }
+    ensures { λ _. ⌜ Given f (now (s .entry)) ⌝ }
 {
+    are_given(s, f);
     let preamble = check_preamble(f, s);
     if let Check::Refused(why, at) = preamble {
         return Scan::Refused(why, at);

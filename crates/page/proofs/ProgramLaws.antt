@@ -1,42 +1,35 @@
 -- The laws of the small program: words in a list of bytes, the complaints' lines, and what is said.
 -- Assumes nothing.
 use mathlib.Core.Path.{_≡_, refl, sym, ap, _∙_}
-use mathlib.Core.Bool.{Bool, true, false}
-use mathlib.Core.List.{List, [], _∷_}
+use mathlib.Core.Bool.{true}
+use mathlib.Core.List.{List, [], flatMap}
 use Prim.Native.Nat.{ℕ, zero, suc, _+_, _-_, _≤_, _<_}
 use native.Mathlib.Omega.{arith}
 use native.Mathlib.Numerals.{add-one}
-use borrow.Author.Tests.{eqb-false, eq-eqb, ne-eqb, le-ltb}
-use lib.Dec.{eqb}
+use borrow.Author.Tests.{eq-eqb, ne-eqb, le-ltb}
 use lib.ListN.{length, getD, take, drop, length-append, drop-of-length-le}
 use lib.Seq.{drop-cons, drop-drop}
-use Rattle.wire.specs.Table.{Outcome, pick, firstMet}
+use Rattle.wire.specs.Table.{Outcome, firstMet}
 use Rattle.layout.specs.declared.facts.FormatFacts.{FormatFacts}
-use Rattle.page.specs.Text.{hole, piece, holesPast, filledFrom, textOutcome, withText}
-use Rattle.page.specs.Shown.{textLen}
+use Rattle.text.specs.Text.{bytes, filled, longest, textOutcome, withText}
+use Rattle.text.specs.Marks.{before, past}
+use Rattle.text.specs.Shown.{textLen}
 use Rattle.page.specs.Words.{standIn, noFacts, wordsCheck, factsBeside}
 use Rattle.page.specs.Answer.{answerText}
-use Rattle.page.specs.Program.{firstWord, wordAt, wordCount, commandCheck, commandFacts, isWrong, commandWrong, usageLine, complaintText, Stream, Saying, output, error, sayingOf, places, programSays, saidOn, said, textFirst}
+use Rattle.page.specs.Program.{wordAt, wordCount, commandCheck, commandFacts, isWrong, commandWrong, complaints, complaintText, Stream, Saying, output, error, sayingOf, places, programSays, saidOn, said, textFirst}
+use Rattle.page.specs.Inner.{complaintsText}
 use Rattle.page.specs.declared.program.Said.{Said}
 use Rattle.page.specs.declared.program.Said.the-variants.{Output, Error}
 use Rattle.page.specs.declared.words.WordsCheck.{WordsCheck}
 use Rattle.page.specs.declared.words.WordsCheck.the-variants.{Taken, Wrong}
 use Rattle.page.specs.declared.words.FactsRead.{FactsRead}
-use Rattle.page.proofs.Texts.{piece-plain}
-use Rattle.page.proofs.Pages.{holes}
+use Rattle.text.proofs.Lines.{holes, plain}
+use Rattle.text.proofs.Marks.{before-take, past-drop}
 use Rattle.page.proofs.AnswerLaws.{answer-short}
 
 -- ---- words
 
 module _ (s : List ℕ) (i : ℕ) (inside : i < length s) where
-  pub word-ends : getD s i 0 ≡ 0 → firstWord (drop i s) ≡ []
-  unfolding firstWord
-  word-ends h = rw (drop-cons s i 0 inside, eq-eqb (getD s i 0) 0 h)
-
-  pub word-on : (getD s i 0 ≡ 0 → ⊥) → length (firstWord (drop i s)) ≡ 1 + length (firstWord (drop (i + 1) s))
-  unfolding firstWord
-  word-on h = rw (drop-cons s i 0 inside, ne-eqb (getD s i 0) 0 h, add-one) (omega arith)
-
   pub count-here : getD s i 0 ≡ 0 → wordCount (drop i s) ≡ 1 + wordCount (drop (i + 1) s)
   unfolding wordCount
   count-here h = rw (drop-cons s i 0 inside, eq-eqb (getD s i 0) 0 h, add-one)
@@ -45,52 +38,28 @@ module _ (s : List ℕ) (i : ℕ) (inside : i < length s) where
   unfolding wordCount
   count-on h = rw (drop-cons s i 0 inside, ne-eqb (getD s i 0) 0 h, add-one)
 
-module _ (s : List ℕ) (i : ℕ) (end : length s ≤ i) where
-  pub word-none : firstWord (drop i s) ≡ []
-  unfolding firstWord
-  word-none = rw (drop-of-length-le s end)
-
-  pub count-none : wordCount (drop i s) ≡ 0
-  unfolding wordCount
-  count-none = rw (drop-of-length-le s end)
-
--- a word is the start of its list
-first-take : (s : List ℕ) → take (length (firstWord s)) s ≡ firstWord s
-unfolding firstWord
-first-take [] = refl
-first-take (b ∷ s) = by-byte (eqb b 0) (first-take s)
-  where
-    by-byte : (m : Bool) → take (length (firstWord s)) s ≡ firstWord s → take (length (pick m [] (b ∷ firstWord s))) (b ∷ s) ≡ pick m [] (b ∷ firstWord s)
-    by-byte true h = refl
-    by-byte false h = ap (λ l. b ∷ l) h
-
-pub first-short : (s : List ℕ) → length (firstWord s) ≤ length s
-unfolding firstWord
-first-short [] = omega arith
-first-short (b ∷ s) = by-byte (eqb b 0) (first-short s)
-  where
-    by-byte : (m : Bool) → length (firstWord s) ≤ length s → length (pick m [] (b ∷ firstWord s)) ≤ length (b ∷ s)
-    by-byte true h = omega arith
-    by-byte false h = omega arith
+pub count-none : (s : List ℕ) (i : ℕ) → length s ≤ i → wordCount (drop i s) ≡ 0
+unfolding wordCount
+count-none s i end = rw (drop-of-length-le s end)
 
 no-words : (k : ℕ) → wordAt k [] ≡ []
-unfolding wordAt firstWord
+unfolding wordAt before past
 no-words zero = refl
 no-words (suc k) = no-words k
 
 -- the word from a place on, by its end
-module _ (s : List ℕ) (from end : ℕ) (at : end ≡ from + length (firstWord (drop from s))) where
+module _ (s : List ℕ) (from end : ℕ) (at : end ≡ from + length (before 0 (drop from s))) where
   pub word-part : take (end - from) (drop from s) ≡ wordAt 0 (drop from s)
   unfolding wordAt
-  word-part = let e : end - from ≡ length (firstWord (drop from s)) = omega arith in rw e (first-take (drop from s))
+  word-part = let e : end - from ≡ length (before 0 (drop from s)) = omega arith in rw e (before-take 0 (drop from s))
 
   pub next-word : (k : ℕ) → 0 < k → wordAt k (drop from s) ≡ wordAt (k - 1) (drop (end + 1) s)
   unfolding wordAt
   next-word zero h = absurd (omega arith)
   next-word (suc k) h =
       let e : suc k - 1 ≡ k = omega arith in
-      let f : from + (length (firstWord (drop from s)) + 1) ≡ end + 1 = omega arith in
-      rw (e, drop-drop (length (firstWord (drop from s)) + 1) from s, f)
+      let f : from + suc (length (before 0 (drop from s))) ≡ end + 1 = omega arith in
+      rw (e, past-drop 0 (drop from s), drop-drop (suc (length (before 0 (drop from s)))) from s, f)
 
   pub no-word-left : (k : ℕ) → 0 < k → length s ≤ end → wordAt k (drop from s) ≡ []
   no-word-left k h g =
@@ -117,43 +86,32 @@ module _ (words : List ℕ) where
 
 -- ---- the complaints
 
--- a text without a hole stays as it is
-plain-byte : (b n rest : ℕ) (m : Bool) → eqb b hole ≡ m → pick m 1 0 + rest ≡ 0 → (piece b n ≡ b ∷ []) × (rest ≡ 0)
-plain-byte b n rest true e h = absurd (omega arith)
-plain-byte b n rest false e h = (piece-plain b n (eqb-false b hole e), omega arith)
+complaint-at : (k : ℕ) → wordAt k complaintsText ≡ complaintText k
+unfolding complaints complaintsText complaintText bytes flatMap wordAt before past
+complaint-at zero = refl
+complaint-at (suc zero) = refl
+complaint-at (suc (suc zero)) = refl
+complaint-at (suc (suc (suc zero))) = refl
+complaint-at (suc (suc (suc (suc zero)))) = refl
+complaint-at (suc (suc (suc (suc (suc zero))))) = refl
+complaint-at (suc (suc (suc (suc (suc (suc k)))))) = no-words k
 
-plain : (text numbers : List ℕ) (k : ℕ) → holes text ≡ 0 → filledFrom k text numbers ≡ text
-unfolding filledFrom
-plain [] numbers k h = refl
-plain (b ∷ text) numbers k h =
-    let p = plain-byte b (getD numbers k 0) (holes text) (eqb b hole) refl h in
-    rw (p .0, plain text numbers (holesPast b k) (p .1))
+-- none has a hole, or is long
+complaint-plain : (k : ℕ) → (holes (complaintText k) ≡ 0) × (length (complaintText k) ≤ 512)
+unfolding complaints complaintText bytes
+complaint-plain zero = (refl, omega arith)
+complaint-plain (suc zero) = (refl, omega arith)
+complaint-plain (suc (suc zero)) = (refl, omega arith)
+complaint-plain (suc (suc (suc zero))) = (refl, omega arith)
+complaint-plain (suc (suc (suc (suc zero)))) = (refl, omega arith)
+complaint-plain (suc (suc (suc (suc (suc zero))))) = (refl, omega arith)
+complaint-plain (suc (suc (suc (suc (suc (suc k)))))) = (refl, omega arith)
 
-pub complaint-as : (line numbers : List ℕ) (k n : ℕ) → k ≡ n → line ≡ complaintText n → holes line ≡ 0 → filledFrom 0 line numbers ≡ complaintText k
-complaint-as line numbers k n e l h = plain line numbers 0 h ∙ l ∙ ap complaintText (sym e)
-
-usage-else : (k : ℕ) → (k ≡ 1 → ⊥) → (k ≡ 2 → ⊥) → (k ≡ 3 → ⊥) → (k ≡ 4 → ⊥) → (k ≡ 5 → ⊥) → usageLine ≡ complaintText k
-unfolding complaintText
-usage-else zero a b c d e = refl
-usage-else (suc zero) a b c d e = absurd (a refl)
-usage-else (suc (suc zero)) a b c d e = absurd (b refl)
-usage-else (suc (suc (suc zero))) a b c d e = absurd (c refl)
-usage-else (suc (suc (suc (suc zero)))) a b c d e = absurd (d refl)
-usage-else (suc (suc (suc (suc (suc zero))))) a b c d e = absurd (e refl)
-usage-else (suc (suc (suc (suc (suc (suc k)))))) a b c d e = refl
-
-pub usage-as : (numbers : List ℕ) (k : ℕ) → (k ≡ 1 → ⊥) → (k ≡ 2 → ⊥) → (k ≡ 3 → ⊥) → (k ≡ 4 → ⊥) → (k ≡ 5 → ⊥) → filledFrom 0 usageLine numbers ≡ complaintText k
-usage-as numbers k a b c d e = plain usageLine numbers 0 refl ∙ usage-else k a b c d e
-
-complaint-short : (k : ℕ) → length (complaintText k) ≤ 512
-unfolding complaintText
-complaint-short zero = omega arith
-complaint-short (suc zero) = omega arith
-complaint-short (suc (suc zero)) = omega arith
-complaint-short (suc (suc (suc zero))) = omega arith
-complaint-short (suc (suc (suc (suc zero)))) = omega arith
-complaint-short (suc (suc (suc (suc (suc zero))))) = omega arith
-complaint-short (suc (suc (suc (suc (suc (suc k)))))) = omega arith
+pub complaint-as : (form numbers : List ℕ) (k : ℕ) → form ≡ wordAt k complaintsText → (length form ≤ longest) × (filled form numbers ≡ complaintText k)
+complaint-as form numbers k e =
+    let p = complaint-plain k in
+    let s = e ∙ complaint-at k in
+    (rw s (omega (arith, p .1)), rw s (plain (complaintText k) numbers 0 (p .0)))
 
 -- ---- what is said
 
@@ -170,7 +128,7 @@ wrong-unread words s t h = by-check (commandCheck words) h
 
 saying-short : (c : WordsCheck) (answer : List ℕ) → length answer ≤ 512 → length (sayingOf c answer .text) ≤ 512
 saying-short Taken answer h = h
-saying-short (Wrong k) answer h = complaint-short k
+saying-short (Wrong k) answer h = complaint-plain k .1
 
 says-short : (words input : List ℕ) → length (programSays words input .text) ≤ 512
 unfolding programSays

@@ -1,75 +1,24 @@
--- The laws of words: a word of digits read on from a place, and the first wrong word.
+-- The facts of the words, byte by byte; and the facts beside an answer: of a wrong word none, and else what the words say.
 -- Assumes nothing.
-use mathlib.Core.Path.{_≡_, refl, sym, _∙_}
-use mathlib.Core.Bool.{Bool, true, false}
+use mathlib.Core.Path.{_≡_, sym, _∙_}
+use mathlib.Core.Bool.{Bool, false}
 use mathlib.Core.List.{List, [], _∷_}
-use Prim.Native.Nat.{ℕ, _+_, _*_, _^_, _≤_, _<_}
-use native.Mathlib.Omega.{arith}
-use native.Mathlib.Numerals.{add-one}
-use borrow.Author.Tests.{le-leb, lt-leb, eq-eqb, ne-eqb}
-use lib.ListN.{length, getD, drop, drop-of-length-le}
-use lib.Seq.{drop-cons}
+use Prim.Native.Nat.{ℕ}
 use Rattle.layout.specs.declared.facts.FormatFacts.{FormatFacts}
-use Rattle.page.specs.Words.{hexDigit, notHex, hexWrong, decimalDigit, numberFrom, numberOfWord, noFacts, factsOf, wordsCheck, factsBeside}
-use Rattle.page.specs.declared.words.NumberWord.the-variants as number
+use Rattle.text.specs.Digits.{hexByte, hexWrong, numberOfWord}
+use Rattle.text.specs.declared.digits.NumberWord.the-variants as number
+use Rattle.page.specs.Words.{noFacts, factsOf, wordsCheck, factsBeside}
 use Rattle.page.specs.declared.words.WordsCheck.{WordsCheck}
 use Rattle.page.specs.declared.words.WordsCheck.the-variants.{Taken, Wrong}
 use Rattle.page.specs.declared.words.FactsRead.{FactsRead}
 
--- ---- hexadecimal
-
-module _ (word : List ℕ) (digits : ℕ) where
-  pub other-length : (length word ≡ digits → ⊥) → hexWrong digits word ≡ true
-  unfolding hexWrong
-  other-length h = rw (ne-eqb (length word) digits h)
-
-  pub right-length : length word ≡ digits → hexWrong digits word ≡ notHex word
-  unfolding hexWrong
-  right-length h = rw (eq-eqb (length word) digits h)
-
-module _ (word : List ℕ) (i d : ℕ) (inside : i < length word) (says : d ≡ hexDigit (getD word i 0)) where
-  pub no-hex-here : 16 ≤ d → notHex (drop i word) ≡ true
-  unfolding notHex
-  no-hex-here h = rw (drop-cons word i 0 inside, sym says, le-leb 16 d h)
-
-  pub hex-here : d < 16 → notHex (drop i word) ≡ notHex (drop (i + 1) word)
-  unfolding notHex
-  hex-here h = rw (drop-cons word i 0 inside, sym says, lt-leb 16 d h, add-one)
-
-pub hex-end : (word : List ℕ) (i : ℕ) → length word ≤ i → notHex (drop i word) ≡ false
-unfolding notHex
-hex-end word i h = rw (drop-of-length-le word h)
-
--- ---- decimal
-
-pub no-word : (word : List ℕ) → length word ≡ 0 → numberOfWord word ≡ number.Wrong
-unfolding numberOfWord
-no-word [] h = refl
-no-word (b ∷ word) h = absurd (omega arith)
-
-pub some-word : (word : List ℕ) → (length word ≡ 0 → ⊥) → numberOfWord word ≡ numberFrom 0 word
-unfolding numberOfWord
-some-word [] h = absurd (h refl)
-some-word (b ∷ word) h = refl
-
-module _ (word : List ℕ) (i value d : ℕ) (inside : i < length word) (says : d ≡ decimalDigit (getD word i 0)) where
-  pub no-digit-here : 10 ≤ d → numberFrom value (drop i word) ≡ number.Wrong
-  unfolding numberFrom
-  no-digit-here h = rw (drop-cons word i 0 inside, sym says, le-leb 10 d h)
-
-  pub too-large : d < 10 → 2 ^ 64 ≤ 10 * value + d → numberFrom value (drop i word) ≡ number.Wrong
-  unfolding numberFrom
-  too-large h g = rw (drop-cons word i 0 inside, sym says, lt-leb 10 d h, le-leb (2 ^ 64) (10 * value + d) g)
-
-  pub digit-here : d < 10 → 10 * value + d < 2 ^ 64 → numberFrom value (drop i word) ≡ numberFrom (10 * value + d) (drop (i + 1) word)
-  unfolding numberFrom
-  digit-here h g = rw (drop-cons word i 0 inside, sym says, lt-leb 10 d h, lt-leb (2 ^ 64) (10 * value + d) g, add-one)
-
-pub number-end : (word : List ℕ) (i value : ℕ) → length word ≤ i → numberFrom value (drop i word) ≡ number.Number value
-unfolding numberFrom
-number-end word i value h = rw (drop-of-length-le word h)
-
--- ---- the facts beside an answer
+-- each byte is that of two digits
+pub as-facts : (magic version hashless reserved : List ℕ) (most a b c d x y z h r : ℕ) →
+    a ≡ hexByte magic 0 → b ≡ hexByte magic 2 → c ≡ hexByte magic 4 → d ≡ hexByte magic 6 →
+    x ≡ hexByte version 0 → y ≡ hexByte version 2 → z ≡ hexByte version 4 → h ≡ hexByte hashless 0 → r ≡ hexByte reserved 0 →
+    record { magic = a ∷ b ∷ c ∷ d ∷ []; version = x ∷ y ∷ z ∷ []; hashless = h; reserved = r; «max_nodes» = most } ≡ factsOf magic version hashless reserved most
+unfolding factsOf
+as-facts magic version hashless reserved most a b c d x y z h r ea eb ec ed ex ey ez eh er = rw (ea, eb, ec, ed, ex, ey, ez, eh, er)
 
 module _ (magic version hashless reserved most : List ℕ) where
   abbrev said : WordsCheck

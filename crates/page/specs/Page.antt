@@ -1,49 +1,39 @@
--- The page of a file, line by line, and the line of a refusal. Each text is given as its bytes; `#` is a hole for a number, and 10 is the newline
--- that ends every line.
+-- The page of a file, line by line, and the line of a refusal. `#` is a hole for a number.
 use Prim.Native.Nat.{ℕ}
 use mathlib.Core.List.{List, [], _∷_, _++_}
 use Rattle.layout.specs.declared.forest.HashSection.{HashSection}
 use Rattle.layout.specs.declared.forest.HashSection.the-variants.{At, Absent}
 use Rattle.layout.specs.declared.forest.ForestLayout.{ForestLayout}
-use Rattle.page.specs.Text.{filled}
+use Rattle.text.specs.Text.{bytes, filled}
 
 -- ---- the texts
 
--- `nodes # internal # external #`
 abbrev pub nodesLine : List ℕ
-nodesLine = 110 ∷ 111 ∷ 100 ∷ 101 ∷ 115 ∷ 32 ∷ 35 ∷ 32 ∷ 105 ∷ 110 ∷ 116 ∷ 101 ∷ 114 ∷ 110 ∷ 97 ∷ 108 ∷ 32 ∷ 35 ∷ 32 ∷ 101 ∷ 120 ∷ 116 ∷ 101 ∷ 114 ∷ 110 ∷ 97 ∷ 108 ∷ 32 ∷ 35 ∷ 10 ∷ []
+nodesLine = bytes "nodes # internal # external #\n"
 
--- `roots # at #`
 abbrev pub rootsLine : List ℕ
-rootsLine = 114 ∷ 111 ∷ 111 ∷ 116 ∷ 115 ∷ 32 ∷ 35 ∷ 32 ∷ 97 ∷ 116 ∷ 32 ∷ 35 ∷ 10 ∷ []
+rootsLine = bytes "roots # at #\n"
 
--- `blocks # at #`
 abbrev pub blocksLine : List ℕ
-blocksLine = 98 ∷ 108 ∷ 111 ∷ 99 ∷ 107 ∷ 115 ∷ 32 ∷ 35 ∷ 32 ∷ 97 ∷ 116 ∷ 32 ∷ 35 ∷ 10 ∷ []
+blocksLine = bytes "blocks # at #\n"
 
--- `entries at #`
 abbrev pub entriesLine : List ℕ
-entriesLine = 101 ∷ 110 ∷ 116 ∷ 114 ∷ 105 ∷ 101 ∷ 115 ∷ 32 ∷ 97 ∷ 116 ∷ 32 ∷ 35 ∷ 10 ∷ []
+entriesLine = bytes "entries at #\n"
 
--- `external digests at #`
 abbrev pub digestsLine : List ℕ
-digestsLine = 101 ∷ 120 ∷ 116 ∷ 101 ∷ 114 ∷ 110 ∷ 97 ∷ 108 ∷ 32 ∷ 100 ∷ 105 ∷ 103 ∷ 101 ∷ 115 ∷ 116 ∷ 115 ∷ 32 ∷ 97 ∷ 116 ∷ 32 ∷ 35 ∷ 10 ∷ []
+digestsLine = bytes "external digests at #\n"
 
--- `node hashes at #`
 abbrev pub hashesLine : List ℕ
-hashesLine = 110 ∷ 111 ∷ 100 ∷ 101 ∷ 32 ∷ 104 ∷ 97 ∷ 115 ∷ 104 ∷ 101 ∷ 115 ∷ 32 ∷ 97 ∷ 116 ∷ 32 ∷ 35 ∷ 10 ∷ []
+hashesLine = bytes "node hashes at #\n"
 
--- `node hashes none`
 abbrev pub noHashesLine : List ℕ
-noHashesLine = 110 ∷ 111 ∷ 100 ∷ 101 ∷ 32 ∷ 104 ∷ 97 ∷ 115 ∷ 104 ∷ 101 ∷ 115 ∷ 32 ∷ 110 ∷ 111 ∷ 110 ∷ 101 ∷ 10 ∷ []
+noHashesLine = bytes "node hashes none\n"
 
--- `advice at # end #`
 abbrev pub adviceLine : List ℕ
-adviceLine = 97 ∷ 100 ∷ 118 ∷ 105 ∷ 99 ∷ 101 ∷ 32 ∷ 97 ∷ 116 ∷ 32 ∷ 35 ∷ 32 ∷ 101 ∷ 110 ∷ 100 ∷ 32 ∷ 35 ∷ 10 ∷ []
+adviceLine = bytes "advice at # end #\n"
 
--- `refused # at #`
 abbrev pub refusalLine : List ℕ
-refusalLine = 114 ∷ 101 ∷ 102 ∷ 117 ∷ 115 ∷ 101 ∷ 100 ∷ 32 ∷ 35 ∷ 32 ∷ 97 ∷ 116 ∷ 32 ∷ 35 ∷ 10 ∷ []
+refusalLine = bytes "refused # at #\n"
 
 -- ---- the page
 

@@ -3,5 +3,4 @@
 pub mod answer;
 pub mod program;
 pub mod sheet;
-pub mod text;
 pub mod words;

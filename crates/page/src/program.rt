@@ -1,19 +1,20 @@
 // The small program: from the words of its command and the bytes of its input to what it says, and where.
 use crate::answer::layout_page;
-use crate::text::TextWritten;
-use crate::text::text_len;
-use crate::text::write_filled;
 use crate::words::FactsRead;
 use crate::words::WordsCheck;
 use crate::words::read_facts;
 use crate::words::stand_in_facts;
 use crate::words::wrong_word;
+use text::fill::TextWritten;
+use text::fill::text_len;
+use text::fill::write_filled;
+use text::mark::mark_from;
 ghost use mathlib.Core.Path.{_≡_};
-ghost use Prim.Native.Nat.{_+_};
-ghost use lib.ListN.{length, take, drop};
-ghost use Rattle.page.specs.Text.{textOutcome, withText};
-ghost use Rattle.page.specs.Shown.{shownText};
-ghost use Rattle.page.specs.Program.{firstWord, wordAt, wordCount, commandCheck, commandFacts, commandWrong, complaintText, programSays, said, textFirst};
+ghost use lib.ListN.{length, take};
+ghost use Rattle.text.specs.Text.{textOutcome, withText};
+ghost use Rattle.text.specs.Shown.{shownText};
+ghost use Rattle.page.specs.Program.{wordAt, wordCount, commandCheck, commandFacts, commandWrong, complaintText, programSays, said, textFirst};
+ghost use Rattle.page.specs.Inner.{complaintsText};
 
 // The stream, and how many bytes of the lent buffer are to be written to it.
 pub enum Said {
@@ -31,20 +32,6 @@ fn part(s: &[u8], n: usize) -> &[u8]
     s
 }
 
-// The place of the first zero from a place on, or the end where there is none.
-fn word_end(words: &[u8], from: usize) -> usize
-    ensures { λ r. ⌜ r ≡ from + length (firstWord (drop from (now (words .entry)))) ⌝ }
-{
-    let mut i = from;
-    while i < words.len() {
-        if words[i] == 0 {
-            return i;
-        }
-        i += 1;
-    }
-    i
-}
-
 // Word k, counted from 0; an empty one where there are fewer.
 fn word_at(words: &[u8], k: usize) -> &[u8]
     ensures { λ r. ⌜ now r ≡ wordAt k (now (words .entry)) ⌝ }
@@ -52,14 +39,14 @@ fn word_at(words: &[u8], k: usize) -> &[u8]
     let mut from: usize = 0;
     let mut left = k;
     while 0 < left {
-        let end = word_end(words, from);
+        let end = mark_from(words, 0, from);
         if words.len() <= end {
             return &words[..0];
         }
         from = end + 1;
         left -= 1;
     }
-    let end = word_end(words, from);
+    let end = mark_from(words, 0, from);
     &words[from..end]
 }
 
@@ -102,43 +89,25 @@ fn command(words: &[u8]) -> FactsRead
     )
 }
 
-// The complaint about word k, counted from 1, or else about how many words there are.
+// The complaints, each with a zero after it, as a command's words have.
+fn complaints() -> [u8; 370]
+    ensures { λ r. ⌜ r ≡ complaintsText ⌝ }
+{
+    *b"mast_layout: give no words, or five: MAGIC VERSION HASHLESS RESERVED MAXIMUM\n\0\
+       mast_layout: the magic is not 8 hexadecimal digits\n\0\
+       mast_layout: the version is not 6 hexadecimal digits\n\0\
+       mast_layout: the hashless mask is not 2 hexadecimal digits\n\0\
+       mast_layout: the reserved mask is not 2 hexadecimal digits\n\0\
+       mast_layout: the node maximum is not a decimal number below 2^64\n\0"
+}
+
+// The complaint about word k, counted from 1, or, as number 0, about how many words there are.
 fn complain(k: usize, out: &mut [u8]) -> TextWritten
     ensures { λ r. ⌜ shownText r ≡ textOutcome (now (out .entry)) (complaintText k) ⌝ }
     ensures { λ _. ⌜ now (out .exit) ≡ withText (now (out .entry)) (complaintText k) ⌝ }
 {
-    match k {
-        1 => write_filled(
-            b"mast_layout: the magic is not 8 hexadecimal digits\n",
-            &[],
-            out,
-        ),
-        2 => write_filled(
-            b"mast_layout: the version is not 6 hexadecimal digits\n",
-            &[],
-            out,
-        ),
-        3 => write_filled(
-            b"mast_layout: the hashless mask is not 2 hexadecimal digits\n",
-            &[],
-            out,
-        ),
-        4 => write_filled(
-            b"mast_layout: the reserved mask is not 2 hexadecimal digits\n",
-            &[],
-            out,
-        ),
-        5 => write_filled(
-            b"mast_layout: the node maximum is not a decimal number below 2^64\n",
-            &[],
-            out,
-        ),
-        _ => write_filled(
-            b"mast_layout: give no words, or five: MAGIC VERSION HASHLESS RESERVED MAXIMUM\n",
-            &[],
-            out,
-        ),
-    }
+    let all = complaints();
+    write_filled(word_at(&all, k), &[], out)
 }
 
 // The key table.

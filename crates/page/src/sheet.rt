@@ -1,17 +1,17 @@
 // The page of a layout and the line of a refusal, written into a lent buffer from its start on.
-use crate::text::TextWritten;
-use crate::text::write_filled;
 use layout::forest::ForestLayout;
 use layout::forest::HashSection;
+use text::fill::TextWritten;
+use text::fill::write_filled;
 use wire::refusal::Refusal;
 use wire::refusal::refusal_number;
 use wire::units::ByteOffset;
 ghost use mathlib.Core.Path.{_≡_};
 ghost use Rattle.wire.specs.Refusals.{numberOf};
 ghost use Rattle.layout.specs.declared.forest.HashSection.the-variants.{At, Absent};
-ghost use Rattle.page.specs.Text.{textOutcome, withText};
+ghost use Rattle.text.specs.Text.{textOutcome, withText};
 ghost use Rattle.page.specs.Page.{pageText, refusalText};
-ghost use Rattle.page.specs.Shown.{shownText};
+ghost use Rattle.text.specs.Shown.{shownText};
 
 // The page of a layout that has no node hashes.
 fn write_hashless(bare: ForestLayout, end: ByteOffset, out: &mut [u8]) -> TextWritten
@@ -33,7 +33,13 @@ fn write_hashless(bare: ForestLayout, end: ByteOffset, out: &mut [u8]) -> TextWr
         end.0,
     ];
     write_filled(
-        b"nodes # internal # external #\nroots # at #\nblocks # at #\nentries at #\nexternal digests at #\nnode hashes none\nadvice at # end #\n",
+        b"nodes # internal # external #\n\
+          roots # at #\n\
+          blocks # at #\n\
+          entries at #\n\
+          external digests at #\n\
+          node hashes none\n\
+          advice at # end #\n",
         &numbers,
         out,
     )
@@ -65,7 +71,13 @@ fn write_hashed(
         end.0,
     ];
     write_filled(
-        b"nodes # internal # external #\nroots # at #\nblocks # at #\nentries at #\nexternal digests at #\nnode hashes at #\nadvice at # end #\n",
+        b"nodes # internal # external #\n\
+          roots # at #\n\
+          blocks # at #\n\
+          entries at #\n\
+          external digests at #\n\
+          node hashes at #\n\
+          advice at # end #\n",
         &numbers,
         out,
     )

@@ -1,12 +1,12 @@
 // Format facts from five words: magic, version, hashless mask and reserved mask in hexadecimal, and
 // the node maximum in decimal.
 use layout::facts::FormatFacts;
+use text::digits::NumberWord;
+use text::digits::hex_byte;
+use text::digits::hex_wrong;
+use text::digits::number_of;
 ghost use mathlib.Core.Path.{_≡_};
-ghost use Prim.Native.Nat.{_<_, _≤_};
-ghost use lib.ListN.{getD};
-ghost use Rattle.page.specs.Words.{hexDigit, hexByte, hexWrong, decimalDigit, numberOfWord, standIn, noFacts, factsOf, wordsCheck, factsBeside};
-
-const MAX: usize = 0xFFFF_FFFF_FFFF_FFFF;
+ghost use Rattle.page.specs.Words.{standIn, noFacts, factsOf, wordsCheck, factsBeside};
 
 // Whether the words were taken, or which is the first wrong one, counted from 1.
 pub enum WordsCheck {
@@ -18,110 +18,6 @@ pub enum WordsCheck {
 pub struct FactsRead {
     pub answer: WordsCheck,
     pub facts: FormatFacts,
-}
-
-// What a word says in decimal.
-enum NumberWord {
-    Number(usize),
-    Wrong,
-}
-
-// What a hexadecimal digit stands for, and 16 for what is none.
-fn hex_digit(b: u8) -> u8
-    ensures { λ r. ⌜ (r ≡ hexDigit b) × (r ≤ 16) ⌝ }
-{
-    if b < b'0' {
-        return 16;
-    }
-    if b <= b'9' {
-        return b - 48;
-    }
-    if b < b'A' {
-        return 16;
-    }
-    if b <= b'F' {
-        return b - 55;
-    }
-    if b < b'a' {
-        return 16;
-    }
-    if b <= b'f' {
-        return b - 87;
-    }
-    16
-}
-
-// The byte at a place of a word; 0 past its end.
-fn byte_at(word: &[u8], i: usize) -> u8
-    ensures { λ r. ⌜ r ≡ getD (now (word .entry)) i 0 ⌝ }
-{
-    if i < word.len() {
-        return word[i];
-    }
-    0
-}
-
-// The byte of the two digits from a place on.
-fn hex_byte(word: &[u8], i: usize) -> u8
-    requires { ⌜ i < 16 ⌝ }
-    ensures { λ r. ⌜ r ≡ hexByte (now (word .entry)) i ⌝ }
-{
-    let high = hex_digit(byte_at(word, i)) % 16;
-    let low = hex_digit(byte_at(word, i + 1)) % 16;
-    16 * high + low
-}
-
-// Whether a word is not so many hexadecimal digits.
-fn hex_wrong(word: &[u8], digits: usize) -> bool
-    ensures { λ r. ⌜ r ≡ hexWrong digits (now (word .entry)) ⌝ }
-{
-    if word.len() != digits {
-        return true;
-    }
-    let mut i: usize = 0;
-    while i < word.len() {
-        if 16 <= hex_digit(word[i]) {
-            return true;
-        }
-        i += 1;
-    }
-    false
-}
-
-// What a decimal digit stands for, and 10 for what is none.
-fn decimal_digit(b: u8) -> usize
-    ensures { λ r. ⌜ (r ≡ decimalDigit b) × (r ≤ 10) ⌝ }
-{
-    if b < b'0' {
-        return 10;
-    }
-    if b <= b'9' {
-        return (b - 48) as usize;
-    }
-    10
-}
-
-// The number of a word in decimal.
-fn number_of(word: &[u8]) -> NumberWord
-    ensures { λ r. ⌜ r ≡ numberOfWord (now (word .entry)) ⌝ }
-{
-    if word.len() == 0 {
-        return NumberWord::Wrong;
-    }
-    let mut value: usize = 0;
-    let mut i: usize = 0;
-    while i < word.len() {
-        let d = decimal_digit(word[i]);
-        if 10 <= d {
-            return NumberWord::Wrong;
-        }
-        if (MAX - d) / 10 < value {
-            return NumberWord::Wrong;
-        }
-        value = 10 * value + d;
-        i += 1;
-    }
-    NumberWord::Number(value)
 }
 
 // The facts that take the place of the true ones, which are not known here: magic `MAST`, version 0 0 2,

@@ -1,23 +1,20 @@
 -- Demand 3: from the parts of an accepted file the writer makes, in the room that the file fills, a file that is accepted, shows the same parts
--- and is the shortest such; another is equally short exactly if each of its counts has its shortest form (`demand-3`). And the files that scan and
+-- and is the shortest such; another is equally short exactly if each of its counts has its shortest form (`shortest-demanded`). And the files that scan and
 -- walk accept are exactly the renderings of their parts, each count in some valid length (`renderings`).
--- Said of the functions through their promises. What their types say is assumed of their arguments: the facts' arrays have 4 and 3 bytes
--- (`Proper`), a file is of bytes (`Bytes`), and a slice has fewer than 2^64 of them.
--- Assumes nothing else.
+-- Said of the functions through their promises: every file is one that the scan was called on, and what the types of that call's arguments say
+-- of them is part of its promise (`Given`).
+-- Assumes nothing.
 use mathlib.Core.Path.{_≡_, refl, sym, ap, _∙_}
 use mathlib.Core.Bool.{true}
 use mathlib.Core.List.{List, [], _++_, append-nil}
 use mathlib.Core.Logic.{_↔_}
-use Prim.Native.Nat.{ℕ, _^_, _≤_, _<_}
+use Prim.Native.Nat.{ℕ, _≤_}
 use native.Mathlib.Omega.{arith}
-use denote.Ref.{now}
 use lib.ListN.{length, take, drop, replicate, length-replicate}
 use lib.Seq.{take-at}
 use Rattle.wire.specs.Table.{accepted}
-use Rattle.wire.specs.Le.{Bytes}
 use Rattle.wire.specs.declared.units.Cursor.{Cursor}
 use Rattle.wire.proofs.Tables.{same-answer}
-use Rattle.layout.specs.Scan.{scanOutcome}
 use Rattle.layout.specs.Shown.{shownScan}
 use Rattle.layout.specs.declared.facts.FormatFacts.{FormatFacts}
 use Rattle.layout.specs.declared.facts.Bound.the-variants.{None}
@@ -25,30 +22,24 @@ use Rattle.layout.specs.declared.forest.ForestLayout.{ForestLayout}
 use Rattle.layout.specs.declared.scan.Scan.{Scan}
 use Rattle.layout.specs.declared.scan.Scan.the-variants as scan
 use Rattle.layout.proofs.Answers.{scanBack, scan-again}
-use Rattle.advice.specs.Walk.{Walked, walkOutcome, keyTable}
+use Rattle.advice.specs.Walk.{Walked, keyTable}
 use Rattle.advice.specs.Shown.{shownWalk}
 use Rattle.advice.specs.declared.walk.MapWalk.{MapWalk}
 use Rattle.advice.specs.declared.walk.MapWalk.the-variants as map
 use Rattle.advice.proofs.Answers.{walkBack, walk-again}
-use Rattle.writer.specs.Parts.{Parts, SameParts, partsShown, fileCounts, EachShortest}
-use Rattle.writer.specs.Writer.{writtenFile, writeOutcome, outputOf, outputAfter}
-use Rattle.writer.specs.Shown.{shownWrite, lent}
+use Rattle.writer.specs.Parts.{SameParts, partsShown, fileCounts, EachShortest}
+use Rattle.writer.specs.Writer.{writtenFile, outputOf, outputAfter}
+use Rattle.writer.specs.Shown.{shownWrite}
 use Rattle.writer.specs.declared.file.ForestWrite.{ForestWrite}
 use Rattle.writer.specs.declared.file.ForestWrite.the-variants as write
 use Rattle.writer.proofs.Answers.{writeBack, write-again}
-use Rattle.writer.proofs.file.write_forest.Reads as write-forest
-use Rattle.renderings.specs.Rendering.{Proper, Taken, Lengths, Rendering}
+use Rattle.layout.specs.Given.{Given}
+use Rattle.renderings.specs.Rendering.{Taken, Lengths, Rendering}
 use Rattle.renderings.proofs.Rendered.{exactly}
-use Rattle.renderings.proofs.Demand.{Demand, demand}
-use Rattle.promises.proofs.Scan.{Scans}
-use Rattle.promises.proofs.Advice.{Walks}
+use Rattle.renderings.proofs.Demand.{demand}
+use Rattle.promises.proofs.Calls.{Scans, Walks, Writes}
 
--- ---- what the promises allow
-
--- the writer, of facts f and parts p into the output o₀: the answer r, and the output o afterwards
-pub record Writes (f : FormatFacts) (p : Parts) (o₀ o : List ℕ) (r : ForestWrite) : Type 0 where
-  pub answer : shownWrite r ≡ writeOutcome f p (length o₀)
-  pub output : o ≡ outputAfter f p o₀
+-- ---- what scan and walk answer
 
 abbrev cursor : ℕ → Cursor
 cursor e = record { at = record { 0 = e } }
@@ -79,22 +70,22 @@ pub record Demand3 (f : FormatFacts) (s : List ℕ) (entries : ℕ) (o : List �
   pub accepts : MustAccept f (take size o) entries size
   pub shows : SameParts (partsShown f (take size o)) (partsShown f s)
   -- no file t so accepted with those parts is shorter to its end d, and one is equally short exactly if each of its counts has its shortest form
-  pub least : (places n d : ℕ) (t : List ℕ) → Bytes t → Accepts f places t n d → SameParts (partsShown f t) (partsShown f s) → size ≤ d
-  pub equal : (places n d : ℕ) (t : List ℕ) → Bytes t → Accepts f places t n d → SameParts (partsShown f t) (partsShown f s)
+  pub least : (places n d : ℕ) (t : List ℕ) → Accepts f places t n d → SameParts (partsShown f t) (partsShown f s) → size ≤ d
+  pub equal : (places n d : ℕ) (t : List ℕ) → Accepts f places t n d → SameParts (partsShown f t) (partsShown f s)
       → (size ≡ d) ↔ EachShortest (fileCounts f t)
 
 -- ---- the functions' answers, as the definitions have them
 
 taken : (f : FormatFacts) (places : ℕ) (s : List ℕ) (n e : ℕ) → Accepts f places s n e → Taken f places s (record { entries = n; end = e })
 taken f places s n e a =
-    record { layout = a .layout; scanned = sym (a .scanned); walked = rw (a .room) at (sym (a .walked .answer)) }
+    record { layout = a .layout; scanned = sym (a .scanned .answer); walked = rw (a .room) at (sym (a .walked .answer)) }
 
-accepts-taken : (f : FormatFacts) (places : ℕ) (s : List ℕ) (w : Walked) → Taken f places s w → Accepts f places s (w .entries) (w .end)
-accepts-taken f places s w t =
+accepts-taken : (f : FormatFacts) (places : ℕ) (s : List ℕ) (w : Walked) → Given f s → Taken f places s w → Accepts f places s (w .entries) (w .end)
+accepts-taken f places s w given t =
     let long = length-replicate {A = ℕ} places 0 in
     record {
       layout = t .layout;
-      scanned = sym (t .scanned);
+      scanned = record { answer = sym (t .scanned); given = given };
       table = replicate places 0;
       room = long;
       after = keyTable s (t .layout .«advice_map_offset» .0) (replicate places 0);
@@ -105,10 +96,10 @@ must : (f : FormatFacts) (s : List ℕ) (w : Walked) → ((q : ℕ) → w .entri
 must f s w taken =
     record {
       scans = λ r said. let t = taken (w .entries) (omega arith) in
-          (t .layout, same-answer shownScan scanBack scan-again _ r (scan.Accepted (t .layout)) said (sym (t .scanned)));
+          (t .layout, same-answer shownScan scanBack scan-again _ r (scan.Accepted (t .layout)) (said .answer) (sym (t .scanned)));
       walks = λ l scanned t₀ t r enough said.
           let k = taken (length t₀) enough in
-          let same : k .layout ≡ l = one (sym (k .scanned) ∙ sym scanned) in
+          let same : k .layout ≡ l = one (sym (k .scanned) ∙ sym (scanned .answer)) in
           same-answer shownWalk walkBack walk-again _ r (map.Walked (w .entries) (cursor (w .end))) (said .answer)
           (sym (rw same at (k .walked)));
     }
@@ -119,14 +110,15 @@ must f s w taken =
 -- ---- the theorems
 
 -- take a file s that is accepted; whatever the writer answers to its parts, given as many bytes of room as s fills to the end of its map
-pub demand-3 : (f : FormatFacts) → Proper f → (s : List ℕ) → Bytes s → (places entries e : ℕ) → Accepts f places s entries e
-    → (o₀ o : List ℕ) (r : ForestWrite) → e ≤ length o₀ → length o₀ < 2 ^ 64 → Writes f (partsShown f s) o₀ o r
+pub shortest-demanded : (f : FormatFacts) (s : List ℕ) (places entries e : ℕ) → Accepts f places s entries e
+    → (o₀ o : List ℕ) (r : ForestWrite) → e ≤ length o₀ → Writes f (partsShown f s) o₀ o r
     → Demand3 f s entries o r
 unfolding outputAfter
-demand-3 f proper s bytes places entries e accepts o₀ o r enough fits writes =
-    let d = demand f proper places s (record { entries = entries; end = e }) bytes (taken f places s entries e accepts) in
+shortest-demanded f s places entries e accepts o₀ o r enough writes =
+    let given = accepts .scanned .given in
+    let d = demand f (given .proper) places s (record { entries = entries; end = e }) (given .bytes) (taken f places s entries e accepts) in
     let file = writtenFile f (partsShown f s) in
-    let said = d .succeeds (length o₀) enough fits in
+    let said = d .succeeds (length o₀) enough (given .below) in
     let is : o ≡ file ++ drop (length file) o₀ = writes .output ∙ ap (outputOf file o₀) said in
     let front : take (length file) o ≡ file = ap (take (length file)) is ∙ take-at file (drop (length file) o₀) (length file) refl in
     record {
@@ -134,20 +126,15 @@ demand-3 f proper s bytes places entries e accepts o₀ o r enough fits writes =
       succeeds = same-answer shownWrite writeBack write-again _ r (write.Written (length file)) (writes .answer) (sym said);
       accepts = rw front (must f file (record { entries = entries; end = length file }) (λ q h. rw append-nil at (d .accepts q h [])));
       shows = rw front (rw append-nil at (d .shows []));
-      least = λ q n x t bt a same. d .least q t (record { entries = n; end = x }) bt (taken f q t n x a) same;
-      equal = λ q n x t bt a same. d .equal q t (record { entries = n; end = x }) bt (taken f q t n x a) same;
+      least = λ q n x t a same. d .least q t (record { entries = n; end = x }) (a .scanned .given .bytes) (taken f q t n x a) same;
+      equal = λ q n x t a same. d .equal q t (record { entries = n; end = x }) (a .scanned .given .bytes) (taken f q t n x a) same;
     }
 
--- it is the function's own promise that is meant
-pub writes : (κs : _) (a : _) (r : _) (e : _) → write-forest.Post κs a r e
-    → Writes (a .0) (lent (a .1 .0) (now (a .1 .1 .0)) (now (a .1 .1 .1 .0)) (now (a .1 .1 .1 .1 .0)) (now (a .1 .1 .1 .1 .1 .0)) (now (a .1 .1 .1 .1 .1 .1 .0)) (now (a .1 .1 .1 .1 .1 .1 .1 .0)) (now (a .1 .1 .1 .1 .1 .1 .1 .1 .0)) (now (a .1 .1 .1 .1 .1 .1 .1 .1 .1 .0))) (now (a .1 .1 .1 .1 .1 .1 .1 .1 .1 .1 .0)) (now (e .1 .1 .1 .1 .1 .1 .1 .1 .1 .1 .0)) r
-writes κs a r e p = record { answer = p .0; output = p .1 }
-
 -- a file is accepted exactly if, to its map's end, it is the rendering of its parts with each count in some valid length
-pub renderings : (f : FormatFacts) → Proper f → (places : ℕ) (s : List ℕ) → Bytes s
+pub renderings : (f : FormatFacts) (places : ℕ) (s : List ℕ) → Given f s
     → ((n : ℕ) × ((e : ℕ) × Accepts f places s n e)) ↔ ((l : Lengths) × Rendering f places s l)
-renderings f proper places s bytes =
-    let law = exactly f proper places s bytes in (
+renderings f places s given =
+    let law = exactly f (given .proper) places s (given .bytes) in (
       λ a. law .0 (_, taken f places s (a .0) (a .1 .0) (a .1 .1)),
-      λ l. let t = law .1 l in (t .0 .entries, (t .0 .end, accepts-taken f places s (t .0) (t .1))),
+      λ l. let t = law .1 l in (t .0 .entries, (t .0 .end, accepts-taken f places s (t .0) given (t .1))),
     )

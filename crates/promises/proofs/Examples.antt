@@ -17,12 +17,13 @@ use Rattle.info.specs.declared.MastNodeEntry.{MastNodeEntry}
 use Rattle.info.specs.declared.MastNodeEntry.the-variants.{Join, Dyn}
 use Rattle.layout.specs.Facts.{badFormat, overBudget}
 use Rattle.layout.specs.Scan.{wordsRules, externals, scanRules, scanOutcome}
-use Rattle.rows.specs.Rows.{rowRules, rowOutcome, entryPass}
+use Rattle.rows.specs.Rows.{rowRules, rowOutcome, nodePass}
 use Rattle.resolved.specs.Slots.{countOf, slotsOf, tableRules, slotsOutcome, tableAfter}
 use Rattle.advice.specs.Walk.{walkRules, walkEnd, mapRules, walkOutcome}
-use Rattle.page.specs.Text.{decimalIn, decimal, piece, holesPast, filledFrom}
+use Rattle.text.specs.Text.{bytes as quoted, decimalIn, decimal, piece, holesPast, filledFrom}
+use Rattle.whole.specs.Whole.{mapOutcome, wholeOutcome}
 use Rattle.page.specs.Page.{hashesText, pageText}
-use Rattle.page.specs.Answer.{mapOutcome, answerOutcome, answerText}
+use Rattle.page.specs.Answer.{answerOutcome, answerText}
 use Rattle.layout.specs.declared.facts.FormatFacts.{FormatFacts}
 use Rattle.layout.specs.declared.facts.Bound.the-variants.{None}
 use Rattle.layout.specs.declared.forest.HashSection.the-variants.{Absent}
@@ -80,23 +81,16 @@ hashlessFile =
     ++ (leBytes 32 0
     ++ (0x01 ∷ []))))))
 
--- P10's page, as the small program prints it: its seven lines, each as its bytes
+-- P10's page, as the small program prints it: its seven lines
 abbrev pub page10 : List ℕ
 page10 =
-    -- nodes 3 internal 2 external 1
-    (110 ∷ 111 ∷ 100 ∷ 101 ∷ 115 ∷ 32 ∷ 51 ∷ 32 ∷ 105 ∷ 110 ∷ 116 ∷ 101 ∷ 114 ∷ 110 ∷ 97 ∷ 108 ∷ 32 ∷ 50 ∷ 32 ∷ 101 ∷ 120 ∷ 116 ∷ 101 ∷ 114 ∷ 110 ∷ 97 ∷ 108 ∷ 32 ∷ 49 ∷ 10 ∷ [])
-    -- roots 1 at 11
-    ++ ((114 ∷ 111 ∷ 111 ∷ 116 ∷ 115 ∷ 32 ∷ 49 ∷ 32 ∷ 97 ∷ 116 ∷ 32 ∷ 49 ∷ 49 ∷ 10 ∷ [])
-    -- blocks 1 at 16
-    ++ ((98 ∷ 108 ∷ 111 ∷ 99 ∷ 107 ∷ 115 ∷ 32 ∷ 49 ∷ 32 ∷ 97 ∷ 116 ∷ 32 ∷ 49 ∷ 54 ∷ 10 ∷ [])
-    -- entries at 17
-    ++ ((101 ∷ 110 ∷ 116 ∷ 114 ∷ 105 ∷ 101 ∷ 115 ∷ 32 ∷ 97 ∷ 116 ∷ 32 ∷ 49 ∷ 55 ∷ 10 ∷ [])
-    -- external digests at 41
-    ++ ((101 ∷ 120 ∷ 116 ∷ 101 ∷ 114 ∷ 110 ∷ 97 ∷ 108 ∷ 32 ∷ 100 ∷ 105 ∷ 103 ∷ 101 ∷ 115 ∷ 116 ∷ 115 ∷ 32 ∷ 97 ∷ 116 ∷ 32 ∷ 52 ∷ 49 ∷ 10 ∷ [])
-    -- node hashes none
-    ++ ((110 ∷ 111 ∷ 100 ∷ 101 ∷ 32 ∷ 104 ∷ 97 ∷ 115 ∷ 104 ∷ 101 ∷ 115 ∷ 32 ∷ 110 ∷ 111 ∷ 110 ∷ 101 ∷ 10 ∷ [])
-    -- advice at 73 end 74
-    ++ (97 ∷ 100 ∷ 118 ∷ 105 ∷ 99 ∷ 101 ∷ 32 ∷ 97 ∷ 116 ∷ 32 ∷ 55 ∷ 51 ∷ 32 ∷ 101 ∷ 110 ∷ 100 ∷ 32 ∷ 55 ∷ 52 ∷ 10 ∷ []))))))
+    quoted "nodes 3 internal 2 external 1\n"
+    ++ (quoted "roots 1 at 11\n"
+    ++ (quoted "blocks 1 at 16\n"
+    ++ (quoted "entries at 17\n"
+    ++ (quoted "external digests at 41\n"
+    ++ (quoted "node hashes none\n"
+    ++ quoted "advice at 73 end 74\n")))))
 
 -- the slots of an accepted file's three nodes
 abbrev pub slotTable : List ℕ → Outcome ForestLayout → List ℕ
@@ -169,5 +163,5 @@ examples =
     ∷ []
 
 pub answered : map (λ (x : Example). ask (x .question)) examples ≡ map (λ (x : Example). x .answer) examples
-unfolding firstMet countOutcome counted countLength trailingZeros countValue le leBytes countForm shortestLen leastFrom decodeOutcome decodeRules entryOf badTag badPayload encodeOutcome scanOutcome scanRules badFormat ones onesIn overBudget wordsRules externals numbersOf tableAfter slotsOutcome tableRules slotsOf countOf entryPass rowOutcome rowRules _>>=_ walkRules walkEnd mapRules walkOutcome decimalIn decimal piece holesPast filledFrom hashesText pageText mapOutcome answerOutcome answerText
+unfolding firstMet countOutcome counted countLength trailingZeros countValue le leBytes countForm shortestLen leastFrom decodeOutcome decodeRules entryOf badTag badPayload encodeOutcome scanOutcome scanRules badFormat ones onesIn overBudget wordsRules externals numbersOf tableAfter slotsOutcome tableRules slotsOf countOf nodePass rowOutcome rowRules _>>=_ walkRules walkEnd mapRules walkOutcome quoted decimalIn decimal piece holesPast filledFrom hashesText pageText mapOutcome wholeOutcome answerOutcome answerText
 answered = refl

@@ -10,7 +10,8 @@ use borrow.Author.Tests.{eq-eqb}
 use lib.Dec.{eqb}
 use lib.ListN.{length, getD, take, drop, length-drop}
 use lib.Seq.{take-all, drop-drop}
-use Rattle.recorded.specs.Text.{before, past, numbersIn, onFirst, linesIn}
+use Rattle.text.specs.Marks.{before, past}
+use Rattle.recorded.specs.Text.{numbersIn, onFirst, linesIn}
 use Rattle.recorded.specs.Calls.{callRow}
 use Rattle.recorded.specs.Agreed.{sameNumbers, agrees, isFile, one, agreedIn}
 use Rattle.recorded.specs.Inner.{CutAt}

@@ -1,4 +1,4 @@
--- The laws of texts: a list cut at its first mark from a place on, and its numbers read from a place on.
+-- The laws of texts: a list cut at its first mark, and its numbers read from a place on.
 -- Assumes nothing.
 use mathlib.Core.Path.{_≡_, refl, sym, _∙_}
 use mathlib.Core.List.{List, [], _∷_, _++_, append-nil, append-assoc}
@@ -7,60 +7,46 @@ use native.Mathlib.Omega.{arith}
 use native.Mathlib.Numerals.{add-one}
 use borrow.Author.Tests.{eq-eqb, ne-eqb}
 use lib.ListN.{length, getD, take, drop, set, drop-of-length-le, length-set}
-use lib.Seq.{drop-cons, take-suc, take-suc-set, length-take-le}
-use Rattle.recorded.specs.Text.{before, past, numbersFrom, numbersIn}
+use lib.Seq.{drop-cons, take-suc-set, length-take-le}
+use Rattle.text.specs.Marks.{before}
+use Rattle.text.proofs.Marks.{before-take, before-short, past-drop}
+use Rattle.recorded.specs.Text.{numbersFrom, numbersIn}
 use Rattle.recorded.specs.Inner.{CutAt, NumberAt}
 
--- no mark below i
-pub record Uncut (l : List ℕ) (mark i : ℕ) : Type 0 where
-  pub inside : i ≤ length l
-  pub front : before mark l ≡ take i l ++ before mark (drop i l)
-  pub back : past mark l ≡ past mark (drop i l)
+-- cut where what is before the mark ends
+module _ (l : List ℕ) (mark end : ℕ) (at : end ≡ 0 + length (before mark (drop 0 l))) where
+  front-ends : end ≡ length (before mark l)
+  front-ends = omega (arith, at)
 
-pub uncut : (l : List ℕ) (mark : ℕ) → Uncut l mark 0
-uncut l mark = record { inside = omega arith; front = refl; back = refl }
+  front-taken : take end l ≡ before mark l
+  front-taken = rw front-ends (before-take mark l)
 
-module _ (l : List ℕ) (mark i : ℕ) (h : Uncut l mark i) where
-  pub uncut-more : i < length l → (getD l i 0 ≡ mark → ⊥) → Uncut l mark (i + 1)
-  unfolding before past
-  uncut-more p n =
-      let e = ne-eqb (getD l i 0) mark n in
-      let front : before mark (drop i l) ≡ getD l i 0 ∷ before mark (drop (i + 1) l) = rw (drop-cons l i 0 p, e, add-one) in
-      let back : past mark (drop i l) ≡ past mark (drop (i + 1) l) = rw (drop-cons l i 0 p, e, add-one) in
+  pub cut-here : end < length l → CutAt l mark end (end + 1)
+  cut-here p =
+      let inside : end ≤ length l = omega arith in
+      let past-it : end + 1 ≡ suc (length (before mark l)) = omega (arith, front-ends) in
       record {
-        inside = omega arith;
-        front = h .front ∙ rw (front, add-one, take-suc l i 0 p) (sym (append-assoc (take i l) (getD l i 0 ∷ []) (before mark (drop (suc i) l))));
-        back = h .back ∙ back;
-      }
-
-  pub cut-here : i < length l → getD l i 0 ≡ mark → CutAt l mark i (i + 1)
-  unfolding before past
-  cut-here p e =
-      let t = eq-eqb (getD l i 0) mark e in
-      let front : before mark (drop i l) ≡ [] = rw (drop-cons l i 0 p, t) in
-      let back : past mark (drop i l) ≡ drop (i + 1) l = rw (drop-cons l i 0 p, t, add-one) in
-      record {
-        inside = omega arith;
-        long = sym (length-take-le i l (h .inside));
+        inside = inside;
+        long = sym (length-take-le end l inside);
         within = omega arith;
         later = omega arith;
         goes = λ q. omega (arith, q);
-        front = sym (h .front ∙ rw front (append-nil (take i l)));
-        back = sym (h .back ∙ back);
+        front = front-taken;
+        back = rw past-it (sym (past-drop mark l));
       }
 
-  pub cut-nowhere : length l ≤ i → CutAt l mark i i
-  unfolding before past
+  pub cut-nowhere : length l ≤ end → CutAt l mark end end
   cut-nowhere p =
-      let none = drop-of-length-le l p in
+      let inside : end ≤ length l = omega (arith, front-ends, before-short mark l) in
+      let no-more : length l ≤ suc (length (before mark l)) = omega (arith, front-ends) in
       record {
-        inside = h .inside;
-        long = sym (length-take-le i l (h .inside));
-        within = h .inside;
+        inside = inside;
+        long = sym (length-take-le end l inside);
+        within = inside;
         later = omega arith;
         goes = λ q. omega (arith, q);
-        front = sym (h .front ∙ rw none (append-nil (take i l)));
-        back = none ∙ sym (h .back ∙ rw none);
+        front = front-taken;
+        back = drop-of-length-le l p ∙ sym (past-drop mark l ∙ drop-of-length-le l no-more);
       }
 
 -- a number's digits from `at` up to i say `value`

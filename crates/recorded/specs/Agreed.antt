@@ -5,7 +5,8 @@ use mathlib.Core.List.{List, [], _∷_}
 use lib.Dec.{eqb}
 use lib.ListN.{getD, drop}
 use Rattle.wire.specs.Table.{pick}
-use Rattle.recorded.specs.Text.{before, past, numbersIn}
+use Rattle.text.specs.Marks.{before, past}
+use Rattle.recorded.specs.Text.{numbersIn}
 use Rattle.recorded.specs.Calls.{callRow}
 
 unfoldable pub sameNumbers : List ℕ → List ℕ → Bool

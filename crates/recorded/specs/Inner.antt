@@ -3,7 +3,8 @@ use Prim.Native.Nat.{ℕ, _<_, _≤_}
 use mathlib.Core.Path.{_≡_}
 use mathlib.Core.List.{List, _∷_}
 use lib.ListN.{length, take, drop}
-use Rattle.recorded.specs.Text.{before, past, numbersIn}
+use Rattle.text.specs.Marks.{before, past}
+use Rattle.recorded.specs.Text.{numbersIn}
 
 -- a list is cut at its first mark: what is before it ends at `end`, and what is past it begins at `rest`
 pub record CutAt (l : List ℕ) (mark end rest : ℕ) : Type 0 where

@@ -1,18 +1,8 @@
--- The text of the recorded cases: what stands before a mark and past it, numbers in decimal, lines.
+-- The text of the recorded cases: numbers in decimal, lines.
 use Prim.Native.Nat.{ℕ, _+_, _-_, _*_}
 use mathlib.Core.List.{List, [], _∷_}
 use lib.Dec.{eqb}
 use Rattle.wire.specs.Table.{pick}
-
--- before the first mark, or all where there is none
-unfoldable pub before : ℕ → List ℕ → List ℕ
-before mark [] = []
-before mark (b ∷ l) = pick (eqb b mark) [] (b ∷ before mark l)
-
--- past the first mark, or nothing where there is none
-unfoldable pub past : ℕ → List ℕ → List ℕ
-past mark [] = []
-past mark (b ∷ l) = pick (eqb b mark) l (past mark l)
 
 -- the digits of a number, and a space (32) after each; 48 is `0`
 unfoldable pub numbersFrom : ℕ → List ℕ → List ℕ

@@ -2,14 +2,15 @@
 use crate::given::first_agrees;
 use crate::given::index_agrees;
 use crate::given::map_agrees;
+use crate::reading::cut;
+use crate::reading::numbers_of;
 use crate::slots::slots_agree;
-use crate::text::cut;
-use crate::text::numbers_of;
 use crate::written::bytes_agree;
 ghost use mathlib.Core.Path.{_≡_};
 ghost use mathlib.Core.Bool.{true};
 ghost use lib.ListN.{getD, drop};
-ghost use Rattle.recorded.specs.Text.{before, past, numbersIn};
+ghost use Rattle.text.specs.Marks.{before, past};
+ghost use Rattle.recorded.specs.Text.{numbersIn};
 ghost use Rattle.recorded.specs.Calls.{callRow};
 ghost use Rattle.recorded.specs.Agreed.{agrees};
 

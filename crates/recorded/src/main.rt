@@ -12,14 +12,14 @@ use libc::STDOUT_FILENO;
 mod case;
 mod given;
 mod lists;
+mod reading;
 mod slots;
 mod tally;
-mod text;
 mod told;
 mod written;
 
+use reading::cut;
 use tally::tally;
-use text::cut;
 
 // Where a case does not agree, its line is named.
 fn print_section(section: &[u8]) -> u64 {

@@ -1,9 +1,9 @@
 // The cases of a section, held one after the other.
 use crate::case::case_agrees;
 use crate::lists::to_bytes;
-use crate::text::Numbers;
-use crate::text::cut;
-use crate::text::numbers_of;
+use crate::reading::Numbers;
+use crate::reading::cut;
+use crate::reading::numbers_of;
 ghost use mathlib.Core.Path.{_≡_};
 ghost use mathlib.Core.Bool.{true};
 ghost use mathlib.Core.List.{[]};

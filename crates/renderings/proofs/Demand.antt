@@ -15,7 +15,8 @@ use Rattle.layout.specs.declared.facts.FormatFacts.{FormatFacts}
 use Rattle.advice.specs.Walk.{Walked}
 use Rattle.writer.specs.Parts.{Parts, asRead, SameParts, partsShown, fileEnd, fileCounts, EachShortest}
 use Rattle.writer.specs.Writer.{writtenFile, writerRules, writeOutcome}
-use Rattle.renderings.specs.Rendering.{Proper, Taken, fileRules, Valid}
+use Rattle.layout.specs.Given.{Proper}
+use Rattle.renderings.specs.Rendering.{Taken, fileRules, Valid}
 use Rattle.renderings.proofs.Answers.{taken-none}
 use Rattle.renderings.proofs.File.{File, file}
 use Rattle.renderings.proofs.Shown.{partsOf}
@@ -60,7 +61,7 @@ module _ (f : FormatFacts) (k : Proper f) (places : ℕ) (t : List ℕ) (bt : By
 -- s is accepted, over so many key places, with so many entries and an end, w: what is promised of the writer's file for its parts
 pub record Demand (f : FormatFacts) (places : ℕ) (s : List ℕ) (w : Walked) : Type 0 where
   -- given as many bytes of room as s fills to the end of its map, the writer succeeds
-  pub succeeds : (room : ℕ) → w .end ≤ room → room < 2 ^ 64
+  pub succeeds : (room : ℕ) → w .end ≤ room → length s < 2 ^ 64
       → writeOutcome f (partsShown f s) room ≡ accepted (length (writtenFile f (partsShown f s)))
   -- its file is accepted, whatever bytes follow, over any key places that the entries need, and s had as many; and it shows the same parts
   pub few : w .entries ≤ places
@@ -91,7 +92,9 @@ demand f k places s w bs taken =
     let new : (q : ℕ) → w .entries ≤ q → (rest : List ℕ) → Accepted f k q (fileOf p) (writtenFile f p ++ rest) =
     (λ q h. accepted-written f k places s bs (a .0) p refl q (omega arith)) in
     record {
-      succeeds = λ room h m. none-accepted (writerRules f p room) _ (valid-writable f k places p valid room m (omega arith));
+      succeeds = λ room h m.
+          let inside : w .end ≤ length s = rw (a .1) at (rendered f k places s bs (a .0) .whole) in
+          none-accepted (writerRules f p room) _ (valid-writable f k places p valid room (omega arith) (omega arith));
       few = few;
       accepts = λ q h rest. rw (written-form f k q p, long) at (new q h rest .taken);
       shows = λ rest. ap asRead (new places few rest .parts) ∙ same-parts f k places s bs (a .0) p refl;

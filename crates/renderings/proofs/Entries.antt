@@ -2,21 +2,22 @@
 -- Assumes nothing.
 use mathlib.Core.Path.{_≡_, refl, ap, sym, _∙_}
 use mathlib.Core.List.{List, [], _∷_, map}
-use mathlib.Core.Bool.{Bool, true, false, _&&_}
+use mathlib.Core.Bool.{false, _&&_}
 use mathlib.Core.Logic.{_↔_}
-use Prim.Native.Nat.{ℕ, zero, suc, _+_, _-_, _^_, _≤_, _<_, zero-le}
+use Prim.Native.Nat.{ℕ, suc, _+_, _-_, _^_, _<_}
 use native.Mathlib.Nat.{mod-lt}
 use native.Mathlib.Omega.{arith}
 use borrow.Author.Tests.{ltb-false}
 use lib.Dec.{ltb, leb, lit<}
-use lib.ListN.{length, getD}
+use lib.ListN.{length}
 use Rattle.wire.specs.Table.{accepted, noneMet, pick}
 use Rattle.wire.specs.Rows.{Below}
 use Rattle.wire.proofs.Tables.{accepted-none, none-accepted}
-use Rattle.info.specs.Entry.{tagOf, payloadOf, kinds, entryOf, badTag, badPayload, decodeRules, decodeOutcome, isExternal, wordOf, encodeOutcome, canonical, Held}
+use Rattle.info.specs.Node.{isExternal}
+use Rattle.info.specs.Entry.{tagOf, payloadOf, entryFrom, entryOf, badTag, badPayload, decodeRules, decodeOutcome, wordOf, canonical, Held}
 use Rattle.info.specs.declared.MastNodeEntry.{MastNodeEntry}
-use Rattle.info.specs.declared.MastNodeEntry.the-variants.{External}
-use Rattle.info.proofs.Laws.{encoded-decodes, decoded-encodes}
+use Rattle.info.proofs.NodeLaws.{each-tag}
+use Rattle.info.proofs.Laws.{encoded-decodes, decoded-encodes, decoded-word}
 use Rattle.layout.specs.Scan.{wordsRules, externals}
 use Rattle.writer.specs.Writer.{written}
 
@@ -34,32 +35,36 @@ entries-mean step at (w ∷ ws) =
 
 -- ---- the numbers of what a tag and a payload say
 
-abbrev kindOf : ℕ → ℕ → MastNodeEntry
-kindOf t p = getD kinds t (λ q. External) p
+kind-below : (t p : ℕ) → p < 2 ^ 60 → wordOf (entryFrom t p) < 2 ^ 64
+kind-below t p h =
+    each-tag (λ t. wordOf (entryFrom t p) < 2 ^ 64)
+    (omega arith)
+    (omega arith)
+    (omega arith)
+    (omega arith)
+    (omega arith)
+    (omega arith)
+    (lit< tt)
+    (lit< tt)
+    (lit< tt)
+    (λ t. lit< tt)
+    t
 
-kind-below : (t p : ℕ) → p < 2 ^ 60 → wordOf (kindOf t p) < 2 ^ 64
-kind-below zero p h = omega arith
-kind-below (suc zero) p h = omega arith
-kind-below (suc (suc zero)) p h = omega arith
-kind-below (suc (suc (suc zero))) p h = omega arith
-kind-below (suc (suc (suc (suc zero)))) p h = omega arith
-kind-below (suc (suc (suc (suc (suc zero))))) p h = omega arith
-kind-below (suc (suc (suc (suc (suc (suc zero)))))) p h = lit< tt
-kind-below (suc (suc (suc (suc (suc (suc (suc zero))))))) p h = lit< tt
-kind-below (suc (suc (suc (suc (suc (suc (suc (suc zero)))))))) p h = lit< tt
-kind-below (suc (suc (suc (suc (suc (suc (suc (suc (suc t))))))))) p h = lit< tt
-
-kind-held : (t p : ℕ) → p < 2 ^ 60 → ((leb 2 t && leb t 5) && ltb (2 ^ 32 - 1) p) ≡ false → Held (kindOf t p)
-kind-held zero p h n = (omega arith, omega arith)
-kind-held (suc zero) p h n = (omega arith, omega arith)
-kind-held (suc (suc zero)) p h n = omega (arith, ltb-false (2 ^ 32 - 1) p n)
-kind-held (suc (suc (suc zero))) p h n = omega (arith, ltb-false (2 ^ 32 - 1) p n)
-kind-held (suc (suc (suc (suc zero)))) p h n = omega (arith, ltb-false (2 ^ 32 - 1) p n)
-kind-held (suc (suc (suc (suc (suc zero))))) p h n = omega (arith, ltb-false (2 ^ 32 - 1) p n)
-kind-held (suc (suc (suc (suc (suc (suc zero)))))) p h n = tt
-kind-held (suc (suc (suc (suc (suc (suc (suc zero))))))) p h n = tt
-kind-held (suc (suc (suc (suc (suc (suc (suc (suc zero)))))))) p h n = tt
-kind-held (suc (suc (suc (suc (suc (suc (suc (suc (suc t))))))))) p h n = tt
+kind-held : (t p : ℕ) → p < 2 ^ 60 → ((leb 2 t && leb t 5) && ltb (2 ^ 32 - 1) p) ≡ false → Held (entryFrom t p)
+kind-held t p h n =
+    each-tag (λ t. ((leb 2 t && leb t 5) && ltb (2 ^ 32 - 1) p) ≡ false → Held (entryFrom t p))
+    (λ n. (omega arith, (omega arith, tt)))
+    (λ n. (omega arith, (omega arith, tt)))
+    (λ n. (omega (arith, ltb-false (2 ^ 32 - 1) p n), tt))
+    (λ n. (omega (arith, ltb-false (2 ^ 32 - 1) p n), tt))
+    (λ n. (omega (arith, ltb-false (2 ^ 32 - 1) p n), tt))
+    (λ n. (omega (arith, ltb-false (2 ^ 32 - 1) p n), tt))
+    (λ n. tt)
+    (λ n. tt)
+    (λ n. tt)
+    (λ t n. tt)
+    t
+    n
 
 -- ---- a word, written again
 
@@ -69,15 +74,13 @@ written-one w = kind-below (tagOf w) (payloadOf w) (mod-lt w (lit< tt))
 
 again : (w : ℕ) → badTag w ≡ false → badPayload w ≡ false
     → (badTag (wordOf (entryOf w)) ≡ false) × (badPayload (wordOf (entryOf w)) ≡ false) × (entryOf (wordOf (entryOf w)) ≡ entryOf w)
-unfolding decodeOutcome decodeRules encodeOutcome entryOf badPayload
+unfolding decodeOutcome decodeRules entryOf badPayload
 again w t p =
     let e = entryOf w in
     let said : decodeOutcome 0 w ≡ accepted e = none-accepted (decodeRules 0 w) e (t, (p, tt)) in
-    let code = decoded-encodes 0 w e said in
-    let word : wordOf e ≡ canonical w = accepted-none _ (wordOf e) (canonical w) code .1 in
-    let back = encoded-decodes 0 e (canonical w) (kind-held (tagOf w) (payloadOf w) (mod-lt w (lit< tt)) p) code in
+    let back = encoded-decodes 0 e (canonical w) (kind-held (tagOf w) (payloadOf w) (mod-lt w (lit< tt)) p) (decoded-encodes 0 w e said) in
     let r = accepted-none (decodeRules 0 (canonical w)) (entryOf (canonical w)) e back in
-    rw word (r .0 .0, r .0 .1 .0, r .1)
+    rw (decoded-word 0 w e said) (r .0 .0, r .0 .1 .0, r .1)
 
 -- ---- words, written again
 
@@ -119,12 +122,3 @@ module _ (vs ws : List ℕ) (same : map entryOf vs ≡ map entryOf ws) where
 
   pub same-written : written vs ≡ written ws
   same-written = written-of vs ∙ ap (map wordOf) same ∙ sym (written-of ws)
-
-at-most-one : (b : Bool) → pick b 1 0 ≤ 1
-at-most-one true = omega arith
-at-most-one false = omega arith
-
-pub externals-most : (ws : List ℕ) → externals ws ≤ length ws
-unfolding externals
-externals-most [] = zero-le
-externals-most (w ∷ ws) = omega (arith, at-most-one (isExternal (entryOf w)), externals-most ws)

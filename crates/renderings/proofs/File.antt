@@ -25,7 +25,7 @@ use Rattle.layout.specs.declared.facts.FormatFacts.{FormatFacts}
 use Rattle.layout.specs.declared.facts.Bound.the-variants.{None}
 use Rattle.advice.proofs.Pieces.{Entry, mapPiece}
 use Rattle.writer.specs.Writer.{written}
-use Rattle.renderings.specs.Rendering.{Proper}
+use Rattle.layout.specs.Given.{Proper}
 use Rattle.renderings.proofs.Entries.{Entries, entries-mean, written-read, written-entries, written-below, length-written, same-externals}
 
 -- a count with tests on its value

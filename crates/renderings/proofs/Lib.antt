@@ -7,4 +7,5 @@ pub mod Valid
 pub mod Answers
 pub mod Rendered
 pub mod Demand
+pub mod Indexed
 pub mod Examples

@@ -1,5 +1,5 @@
 -- Accepted files are renderings. A file is accepted exactly if it is, up to where its map ends, the rendering of its parts under some length for
--- each count (`exactly`); the lengths are those that it shows (`one-lengths`). And the rendering of valid parts, under any lengths for which
+-- each count (`exactly`). And the rendering of valid parts, under any lengths for which
 -- the counts have forms, is accepted whatever follows it, and shows those parts and lengths (`rendering-accepted`).
 -- Assumes nothing.
 use mathlib.Core.Path.{_≡_, sym, ap, subst, _∙_}
@@ -10,12 +10,13 @@ use native.Mathlib.Omega.{arith}
 use lib.ListN.{length, take, drop, take-append-drop}
 use Rattle.wire.specs.Table.{noneMet}
 use Rattle.wire.specs.Le.{Bytes}
-use Rattle.wire.proofs.Piece.{Stands, found, made, exact}
+use Rattle.wire.proofs.Piece.{found, made}
 use Rattle.layout.specs.Scan.{mapAt}
 use Rattle.layout.specs.declared.facts.FormatFacts.{FormatFacts}
 use Rattle.advice.specs.Walk.{Walked, walked}
 use Rattle.writer.specs.Parts.{Parts, partsShown, fileEnd, fileCounts}
-use Rattle.renderings.specs.Rendering.{Proper, Taken, fileRules, Lengths, lengthsShown, renderedFile, Lengthened, Valid, Rendering}
+use Rattle.layout.specs.Given.{Proper}
+use Rattle.renderings.specs.Rendering.{Taken, fileRules, Lengths, lengthsShown, renderedFile, Lengthened, Valid, Rendering}
 use Rattle.renderings.proofs.Answers.{none-taken, taken-none}
 use Rattle.renderings.proofs.File.{File, file, entryCountOf}
 use Rattle.renderings.proofs.Shown.{partsOf, countsOf, lengthsOf, rules-same, end-same, parts-same, counts-same, lengths-same}
@@ -24,10 +25,6 @@ use Rattle.renderings.proofs.Valid.{good-valid, good-lengthened, valid-
 
 module _ (f : FormatFacts) (k : Proper f) (places : ℕ) where
   -- ---- accepted files are the forms of good values
-
-  -- accepted exactly if it begins with one
-  pub accepts-forms : (s : List ℕ) → Bytes s → noneMet (fileRules f places s) ↔ ((v : File) × file f k places .Good v × Stands s 0 (file f k places .form v))
-  accepts-forms s bs = rw (rules-same f k places s) (exact (file f k places) s bs)
 
   -- an accepted file is, up to its end, the form of the value that it shows
   pub record Rendered (s : List ℕ) (v : File) : Type 0 where
@@ -98,9 +95,6 @@ module _ (f : FormatFacts) (k : Proper f) (places : ℕ) where
     shows l r =
         let e : renderedFile f (partsShown f s) l ++ drop (fileEnd f s) s ≡ s = rw (← r .bytes) (take-append-drop (fileEnd f s) s) in
         subst (λ (t : List ℕ). Shows (partsShown f s) l t) e (rendering-accepted (partsShown f s) l (drop (fileEnd f s) s) (r .valid) (r .lengthened))
-
-    pub one-lengths : (l : Lengths) → Rendering f places s l → lengthsShown f s ≡ l
-    one-lengths l r = shows l r .lengths
 
     module _ (bs : Bytes s) where
       module _ (w : Walked) (taken : Taken f places s w) where

@@ -9,7 +9,8 @@ use Rattle.layout.specs.declared.facts.FormatFacts.{FormatFacts}
 use Rattle.advice.specs.Walk.{Advice}
 use Rattle.advice.proofs.Pieces.{Entry, map-rules, map-end, map-shown}
 use Rattle.writer.specs.Parts.{Parts, joined, partsShown, fileEnd, fileCounts}
-use Rattle.renderings.specs.Rendering.{Proper, fileRules, Lengths, lengthsShown}
+use Rattle.layout.specs.Given.{Proper}
+use Rattle.renderings.specs.Rendering.{fileRules, Lengths, lengthsShown}
 use Rattle.renderings.proofs.File.{File, file, flagOf, internalOf, externalOf, rootCountOf, rootsOf, blockCountOf, sectionsOf, wordsOf, entryCountOf, entriesOf}
 
 abbrev pub keyOf : Entry → List ℕ

@@ -18,8 +18,10 @@ use Rattle.layout.specs.Scan.{wordsRules, externals}
 use Rattle.layout.specs.declared.facts.FormatFacts.{FormatFacts}
 use Rattle.writer.specs.Parts.{Parts}
 use Rattle.writer.specs.Writer.{internals, written, writtenFile, keyRules, writerRules}
-use Rattle.renderings.specs.Rendering.{Proper, Lengths, shortest, renderedFile, asWritten, Lengthened, Valid}
-use Rattle.renderings.proofs.Entries.{entries-mean, written-read, length-written, same-externals, externals-most}
+use Rattle.layout.specs.Given.{Proper}
+use Rattle.writer.proofs.Words.{externals-few}
+use Rattle.renderings.specs.Rendering.{Lengths, shortest, renderedFile, asWritten, Lengthened, Valid}
+use Rattle.renderings.proofs.Entries.{entries-mean, written-read, length-written, same-externals}
 use Rattle.renderings.proofs.File.{File, file, flagOf, internalOf, externalOf, rootCountOf, blockCountOf, wordsOf}
 use Rattle.renderings.proofs.Shown.{partsOf, lengthsOf}
 use Rattle.renderings.proofs.Map.{from-back, joined-good}
@@ -89,7 +91,7 @@ and-false false = refl
 
 module _ (f : FormatFacts) (k : Proper f) (places : ℕ) (p : Parts) (valid : Valid f places p) where
   nodes-sum : internals (p .words) + externals (p .words) ≡ length (p .words)
-  nodes-sum = omega (arith, externals-most (p .words))
+  nodes-sum = omega (arith, externals-few (p .words))
 
   pub valid-good : (l : Lengths) → Lengthened p l → file f k places .Good (valueOf p (p .words) l)
   unfolding overBudget
@@ -154,7 +156,7 @@ module _ (f : FormatFacts) (k : Proper f) (places : ℕ) (p : Parts) (valid : Va
       let same : fileOf p ≡ valueOf (asWritten p) (written ws) (shortest p) = rw (length-written ws, same-externals (written ws) ws read) refl in
       sym (written-form f k places p) ∙ ap (file f k places .form) same ∙ rendered-form f k places (asWritten p) (shortest p)
 
-  pub valid-writable : (room : ℕ) → room < 2 ^ 64 → length (writtenFile f p) ≤ room → noneMet (writerRules f p room)
+  pub valid-writable : (room : ℕ) → length (writtenFile f p) < 2 ^ 64 → length (writtenFile f p) ≤ room → noneMet (writerRules f p room)
   unfolding writerRules
   valid-writable room most fits =
       valid .format

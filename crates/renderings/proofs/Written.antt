@@ -15,7 +15,8 @@ use Rattle.layout.specs.Scan.{externals}
 use Rattle.layout.specs.declared.facts.FormatFacts.{FormatFacts}
 use Rattle.writer.specs.Parts.{Parts, PartsRead, SameParts, EachShortest}
 use Rattle.writer.specs.Writer.{internals, written, headBytes, rootBytes, blockBytes, nodeBytes, mapBytes, writtenFile}
-use Rattle.renderings.specs.Rendering.{Proper, Lengths, shortest, renderedFile}
+use Rattle.layout.specs.Given.{Proper}
+use Rattle.renderings.specs.Rendering.{Lengths, shortest, renderedFile}
 use Rattle.renderings.proofs.Entries.{written-read, same-externals, same-written}
 use Rattle.renderings.proofs.File.{File, body, file, flagOf, internalOf, externalOf, rootCountOf, rootsOf, blockCountOf, sectionsOf, wordsOf, entryCountOf, entriesOf}
 use Rattle.renderings.proofs.Shown.{keyOf, lengthOf, valuesOf, partsOf, countsOf, lengthsOf}

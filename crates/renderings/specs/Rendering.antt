@@ -17,11 +17,6 @@ use Rattle.advice.specs.Walk.{Advice, entryCount, Walked, mapRules, walkOutcome
 use Rattle.writer.specs.Parts.{Parts, advice, partsShown, fileEnd}
 use Rattle.writer.specs.Writer.{internals, written, sum, keyRules}
 
--- facts whose magic has four bytes, and whose version has three
-pub record Proper (f : FormatFacts) : Type 0 where
-  pub four : length (f .magic) ≡ 4
-  pub three : length (f .version) ≡ 3
-
 -- The scan, with hashless files allowed and no bound, accepts s; and the walk from the offset that it gives, over so many key places, accepts
 -- with the number of entries and the end w.
 pub record Taken (f : FormatFacts) (places : ℕ) (s : List ℕ) (w : Walked) : Type 0 where

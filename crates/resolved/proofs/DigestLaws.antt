@@ -2,39 +2,25 @@
 -- Assumes nothing.
 use mathlib.Core.Path.{_≡_, refl, sym, ap, _∙_}
 use mathlib.Core.Bool.{Bool, true, false}
-use mathlib.Core.List.{List, []}
+use mathlib.Core.List.{List}
 use Prim.Native.Nat.{ℕ, _+_, _-_, _≤_, _<_}
 use borrow.Author.Tests.{lt-ltb, le-ltb, le-leb, lt-leb}
-use lib.Dec.{eqb}
 use lib.ListN.{length, getD}
 use Rattle.wire.specs.Table.{Outcome, refused, accepted, pick, firstMet, At, _>>=_}
 use Rattle.wire.specs.Refusals.{numberOf, OVERFLOW, INDEX, ROOM}
 use Rattle.wire.specs.Words.{fourAt, wordRules, wordOutcome}
 use Rattle.wire.specs.declared.refusal.Refusal.{Refusal}
 use Rattle.wire.proofs.Tables.{accepted-none, replaced-accepted, replaced-refused}
-use Rattle.info.specs.Entry.{isExternal}
+use Rattle.info.specs.Node.{isExternal}
 use Rattle.info.specs.declared.MastNodeEntry.{MastNodeEntry}
-use Rattle.info.specs.declared.MastNodeEntry.the-variants.{Join, Split, Loop, Block, Call, SysCall, Dyn, Dyncall, External}
-use Rattle.rows.specs.Rows.{rowAt, rowOver, externalOne, entryPass}
+use Rattle.rows.specs.Rows.{rowAt, rowOver, entryPass}
 use Rattle.layout.specs.declared.forest.ForestLayout.{ForestLayout}
-use Rattle.resolved.specs.Nodes.{nodeEntry, kindOf, externalNode}
+use Rattle.resolved.specs.Nodes.{nodeEntry, externalIn, externalNode}
 use Rattle.resolved.specs.Slots.{slotOf}
 use Rattle.resolved.specs.Digests.{sectionOf, digestRules, digestAt, digestIn, digestByCounting, digestWithTable, digestOf, noDigest}
 use Rattle.resolved.specs.Shown.{shownDigest}
 use Rattle.resolved.specs.declared.digests.DigestRead.{DigestRead}
 use Rattle.resolved.proofs.SlotLaws.{slot-is, counted-kinds}
-
--- the lowest class is that of the externals
-pub external-class : (e : MastNodeEntry) → eqb (externalOne e) 1 ≡ isExternal e
-external-class (Join left right) = refl
-external-class (Split then else) = refl
-external-class (Loop body) = refl
-external-class (Block offset) = refl
-external-class (Call callee) = refl
-external-class (SysCall callee) = refl
-external-class Dyn = refl
-external-class Dyncall = refl
-external-class External = refl
 
 -- an answer says an outcome, and has its word beside it
 abbrev pub Digested : DigestRead → Outcome (List ℕ) → Type 0
@@ -96,7 +82,7 @@ module _ (s : List ℕ) (l : ForestLayout) (index : ℕ) where
       pub counting-answer : (r : DigestRead) (e : MastNodeEntry) (external : Bool) (slot : ℕ) → nodeEntry s l index ≡ accepted e → external ≡ isExternal e →
           slot ≡ pick external externals (index - externals) → Digested r (digestIn s index slot (sectionOf l external)) → Digested r (digestByCounting s l index)
       counting-answer r e external slot q k t d =
-          let kind : externalNode s l index ≡ external = ap kindOf q ∙ sym k in
+          let kind : externalNode s l index ≡ external = ap externalIn q ∙ sym k in
           let own : slot ≡ slotOf (externalNode s l) index =
           t ∙ slot-is (externalNode s l) external externals index (counted-kinds s (l .«node_entry_offset» .0) index externals clean) ∙ rw kind in
           digested-as r _ _ (rw (own, k) (sym (counting-digest e q))) d

@@ -1,27 +1,26 @@
 -- What the slot builder's table is good for.
---     built-slot, built-rest   it has the slot of each node, and the rest is as it was
---     readers-agree            over it the two digest readers agree at every index
+--     built-slot      it has the slot of each node
+--     readers-agree   over it the two digest readers agree at every index
 -- Assumes nothing.
 use mathlib.Core.Path.{_≡_, refl, sym, _∙_}
 use mathlib.Core.Bool.{Bool, true, false}
 use mathlib.Core.List.{List, _++_}
-use Prim.Native.Nat.{ℕ, _+_, _-_, _≤_, _<_}
+use Prim.Native.Nat.{ℕ, _≤_, _<_}
 use native.Mathlib.Omega.{arith}
 use borrow.Author.Tests.{ltb-true, ltb-false}
 use lib.Dec.{ltb}
 use lib.ListN.{length, getD, drop, length-append, length-drop, List·getD-append}
-use lib.Seq.{getD-append-add, getD-drop}
 use Rattle.wire.specs.Table.{accepted, checked}
 use Rattle.wire.proofs.Stages.{both-taken}
 use Rattle.wire.proofs.Tables.{accepted-none}
 use Rattle.info.specs.declared.MastNodeEntry.{MastNodeEntry}
-use Rattle.rows.specs.Rows.{externalOne, entryPass}
+use Rattle.rows.specs.Rows.{countExternal, entryPass}
+use Rattle.rows.proofs.Pass.{pass-each}
 use Rattle.layout.specs.declared.facts.Bound.{Bound}
 use Rattle.layout.specs.declared.forest.ForestLayout.{ForestLayout}
 use Rattle.resolved.specs.Nodes.{nodeEntry, externalNode}
 use Rattle.resolved.specs.Slots.{slotOf, slotsOf, tableRules, slotsOutcome, tableAfter}
 use Rattle.resolved.specs.Digests.{digestByCounting, digestWithTable}
-use Rattle.resolved.proofs.Pass.{pass-each, entry-pass}
 use Rattle.resolved.proofs.SlotLaws.{length-slots, slot-at, filled-table}
 use Rattle.resolved.proofs.DigestLaws.{counting-index, counting-digest, table-index, table-digest}
 
@@ -60,17 +59,11 @@ module _ (s : List ℕ) (l : ForestLayout) (bound left : Bound) (table : List �
       let inside : i < length (slotsOf kinds nodes) = rw length-slots h in
       rw (is-written, List·getD-append (slotsOf kinds nodes) (drop nodes table) 0 i inside) (slot-at kinds i nodes h)
 
-  pub built-rest : (i : ℕ) → nodes ≤ i → getD written i 0 ≡ getD table i 0
-  built-rest i h =
-      let e : length (slotsOf kinds nodes) + (i - nodes) ≡ i = rw length-slots (omega arith) in
-      let f : nodes + (i - nodes) ≡ i = omega arith in
-      rw is-written (rw e at (getD-append-add (slotsOf kinds nodes) (drop nodes table) (i - nodes) 0) ∙ rw (getD-drop, f))
-
   -- the nodes up to any one were read too
   clean-to : (i : ℕ) → i < nodes → (externals : ℕ) × ((entry : MastNodeEntry) × ((entryPass (nodeEntry s l) i ≡ accepted externals) × (nodeEntry s l i ≡ accepted entry)))
   clean-to i h =
-      let p = pass-each (nodeEntry s l) (λ i x e. accepted (x + externalOne e)) 0 nodes (clean .0) (sym (entry-pass (nodeEntry s l) nodes) ∙ clean .1) i h in
-      (p .before, (p .entry, (entry-pass (nodeEntry s l) i ∙ p .so-far, p .read-as)))
+      let p = pass-each (nodeEntry s l) countExternal 0 nodes (clean .0) (clean .1) i h in
+      (p .before, (p .entry, (p .so-far, p .read-as)))
 
   pub readers-agree : (index : ℕ) → digestWithTable s l index written ≡ digestByCounting s l index
   readers-agree index = go (ltb index nodes) refl

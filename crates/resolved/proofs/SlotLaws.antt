@@ -17,16 +17,17 @@ use Rattle.wire.specs.Le.{Bytes, le, leAt}
 use Rattle.wire.proofs.Le.{le-parts, le-next, le-slice-below}
 use Rattle.wire.proofs.Stages.{both-taken}
 use Rattle.wire.proofs.Tables.{accepted-none}
-use Rattle.info.specs.Entry.{kinds, entryOf, isExternal, badTag, badPayload, decodeRules, decodeOutcome}
+use Rattle.info.specs.Node.{isExternal}
+use Rattle.info.specs.Entry.{entryFrom, entryOf, badTag, badPayload, decodeRules, decodeOutcome}
 use Rattle.info.specs.declared.MastNodeEntry.{MastNodeEntry}
-use Rattle.info.specs.declared.MastNodeEntry.the-variants.{External}
-use Rattle.rows.specs.Rows.{rowWord, rowRules, rowOutcome, externalOne, entryPass}
+use Rattle.info.proofs.NodeLaws.{by-tag}
+use Rattle.rows.specs.Rows.{rowWord, rowRules, rowOutcome, nodePass, externalOne, countExternal, entryPass}
+use Rattle.rows.proofs.Pass.{pass-each}
 use Rattle.rows.proofs.RowLaws.{inside-row}
 use Rattle.layout.specs.declared.facts.Bound.{Bound}
 use Rattle.layout.specs.declared.forest.ForestLayout.{ForestLayout}
-use Rattle.resolved.specs.Nodes.{nodeEntry, kindOf, externalRow, externalNode}
+use Rattle.resolved.specs.Nodes.{nodeEntry, externalIn, externalRow, externalNode}
 use Rattle.resolved.specs.Slots.{countOf, slotOf, slotsOf, spent, tableRules, slotsOutcome, tableAfter}
-use Rattle.resolved.proofs.Pass.{entry-pass, pass-each}
 
 -- ---- counts and slots, where `kinds i` is the kind of node i
 
@@ -145,36 +146,33 @@ tag-byte s b at h =
     let none : leAt s (at + 8) 0 ≡ 0 = rw (add-zero, slice-empty (at + 8) s) in
     omega (arith, le-parts s at 7 1 (omega arith), le-next s at 7 0 (omega arith), le-slice-below 7 at (at + 7) s b (omega arith))
 
--- a payload that does not fit has no kind, and no single is External
-single-kind : (wide : Bool) (i : ℕ) (e : MastNodeEntry) → isExternal e ≡ false → kindOf (pick wide (refused PAYLOAD i) (accepted e)) ≡ false
-single-kind true i e q = refl
-single-kind false i e q = q
+-- what a tag and a payload say, where `wide` is whether the payload is too wide for a single
+abbrev tagged : Bool → ℕ → ℕ → ℕ → Outcome MastNodeEntry
+tagged wide t p i = firstMet (rule TAG i (ltb 8 t) ∷ rule PAYLOAD i ((leb 2 t && leb t 5) && wide) ∷ []) (entryFrom t p)
+
+low-tag : (wide : Bool) (t p i : ℕ) → t ≤ 8 → externalIn (tagged wide t p i) ≡ eqb t 8
+unfolding firstMet
+low-tag true t p i h = by-tag (λ t. externalIn (tagged true t p i) ≡ eqb t 8) refl refl refl refl refl refl refl refl refl t h
+low-tag false t p i h = by-tag (λ t. externalIn (tagged false t p i) ≡ eqb t 8) refl refl refl refl refl refl refl refl refl t h
+
+high-tag : (wide : Bool) (t p i : ℕ) → 8 < t → externalIn (tagged wide t p i) ≡ eqb t 8
+unfolding firstMet
+high-tag wide t p i h = rw (lt-ltb 8 t h) (sym (ne-eqb t 8 (λ e. omega arith)))
 
 -- a node is external exactly if its tag is 8, whatever its payload
-abbrev tagged : ℕ → ℕ → ℕ → Outcome MastNodeEntry
-tagged t p i = firstMet (rule TAG i (ltb 8 t) ∷ rule PAYLOAD i ((leb 2 t && leb t 5) && ltb (2 ^ 32 - 1) p) ∷ []) (getD kinds t (λ q. External) p)
-
-tag-kind : (t p i : ℕ) → kindOf (tagged t p i) ≡ eqb t 8
-unfolding firstMet
-tag-kind zero p i = refl
-tag-kind (suc zero) p i = refl
-tag-kind (suc (suc zero)) p i = single-kind (ltb (2 ^ 32 - 1) p) i _ refl
-tag-kind (suc (suc (suc zero))) p i = single-kind (ltb (2 ^ 32 - 1) p) i _ refl
-tag-kind (suc (suc (suc (suc zero)))) p i = single-kind (ltb (2 ^ 32 - 1) p) i _ refl
-tag-kind (suc (suc (suc (suc (suc zero))))) p i = single-kind (ltb (2 ^ 32 - 1) p) i _ refl
-tag-kind (suc (suc (suc (suc (suc (suc zero)))))) p i = refl
-tag-kind (suc (suc (suc (suc (suc (suc (suc zero))))))) p i = refl
-tag-kind (suc (suc (suc (suc (suc (suc (suc (suc zero)))))))) p i = refl
-tag-kind (suc (suc (suc (suc (suc (suc (suc (suc (suc t))))))))) p i =
-    let far : 8 < suc (suc (suc (suc (suc (suc (suc (suc (suc t)))))))) = omega arith in
-    rw (lt-ltb 8 _ far) (sym (ne-eqb (suc (suc (suc (suc (suc (suc (suc (suc (suc t))))))))) 8 (λ e. omega arith)))
+tag-kind : (wide : Bool) (t p i : ℕ) → externalIn (tagged wide t p i) ≡ eqb t 8
+tag-kind wide t p i = go (ltb 8 t) refl
+  where
+    go : (far : Bool) → ltb 8 t ≡ far → externalIn (tagged wide t p i) ≡ eqb t 8
+    go true q = high-tag wide t p i (ltb-true 8 t q)
+    go false q = low-tag wide t p i (ltb-false 8 t q)
 
 -- so the top byte of its row says it
 pub top-kind : (s : List ℕ) → Bytes s → (first i n : ℕ) → first + 8 * n ≤ length s → length s < 2 ^ 64 → i < n →
     externalRow s first i ≡ eqb (getD s (first + 8 * i + 7) 0 / 16) 8
 unfolding decodeOutcome decodeRules entryOf badTag badPayload
 top-kind s b first i n inside fits h =
-    rw (inside-row s first i n inside fits h, ← tag-byte s b (first + 8 * i) (omega arith)) (tag-kind (rowWord s first i / 2 ^ 60) (rowWord s first i % 2 ^ 60) i)
+    rw (inside-row s first i n inside fits h, ← tag-byte s b (first + 8 * i) (omega arith)) (tag-kind (ltb (2 ^ 32 - 1) (rowWord s first i % 2 ^ 60)) (rowWord s first i / 2 ^ 60) (rowWord s first i % 2 ^ 60) i)
 
 -- ---- rows that are read
 
@@ -189,16 +187,16 @@ row-inside s first i e q =
 -- where all of n rows are read, they lie inside the file
 pub rows-inside : (s : List ℕ) (first n externals : ℕ) → entryPass (rowOutcome s first) n ≡ accepted externals → 0 < n → first + 8 * n ≤ length s
 rows-inside s first n externals q h =
-    let last = pass-each (rowOutcome s first) (λ i x e. accepted (x + externalOne e)) 0 n externals (sym (entry-pass (rowOutcome s first) n) ∙ q) (n - 1) (omega arith) in
+    let last = pass-each (rowOutcome s first) countExternal 0 n externals q (n - 1) (omega arith) in
     omega (arith, row-inside s first (n - 1) (last .entry) (last .read-as) .1)
 
 -- one external, or none, by what a row says
-one-of-row : (o : Outcome MastNodeEntry) (e : MastNodeEntry) → o ≡ accepted e → pick (Bool·beq true (kindOf o)) 1 0 ≡ externalOne e
+one-of-row : (o : Outcome MastNodeEntry) (e : MastNodeEntry) → o ≡ accepted e → pick (Bool·beq true (externalIn o)) 1 0 ≡ externalOne e
 one-of-row o e q = rw (q, is-true (isExternal e))
 
 -- the externals that are counted are those of the kinds
 pub counted-kinds : (s : List ℕ) (first n externals : ℕ) → entryPass (rowOutcome s first) n ≡ accepted externals → externals ≡ countOf (externalRow s first) true n
-unfolding entryPass countOf
+unfolding nodePass countOf
 counted-kinds s first zero x q = cc
 counted-kinds s first (suc n) x q =
     let b = both-taken (entryPass (rowOutcome s first) n) _ x q in

@@ -1,5 +1,6 @@
 -- The digest of a node, by counting the earlier nodes of its kind, and with a lent slot table.
 use Prim.Native.Nat.{ℕ}
+use mathlib.Core.Path.{_≡_}
 use mathlib.Core.Bool.{Bool, true, false}
 use mathlib.Core.List.{List, [], _∷_}
 use lib.Dec.{ltb, leb}
@@ -8,12 +9,13 @@ use Rattle.wire.specs.Table.{Rule, rule, Outcome, refused, accepted, firstMet, 
 use Rattle.wire.specs.Refusals.{SHORT, OVERFLOW, INDEX, NO-HASH, ELEMENT, ROOM}
 use Rattle.wire.specs.Le.{isShort}
 use Rattle.wire.specs.Words.{notElements, zeroWord, fourAt}
-use Rattle.info.specs.Entry.{isExternal}
+use Rattle.info.specs.Node.{isExternal}
 use Rattle.rows.specs.Rows.{rowAt, rowOver, entryPass}
 use Rattle.layout.specs.declared.forest.ForestLayout.{ForestLayout}
 use Rattle.layout.specs.declared.forest.HashSection.{HashSection}
 use Rattle.layout.specs.declared.forest.HashSection.the-variants.{At, Absent}
 use Rattle.wire.specs.declared.refusal.Refusal.{Refusal}
+use Rattle.wire.specs.declared.units.ByteOffset.{ByteOffset}
 use Rattle.resolved.specs.declared.digests.DigestAnswer.the-variants.{Refused}
 use Rattle.resolved.specs.declared.digests.DigestRead.{DigestRead}
 use Rattle.resolved.specs.Nodes.{nodeEntry, externalNode}
@@ -63,3 +65,10 @@ digestOf (accepted word) = word
 -- a refused answer, with zeros beside it
 abbrev pub noDigest : Refusal → ℕ → DigestRead
 noDigest why index = record { answer = Refused why index; word = zeroWord }
+
+-- What a node's digest can be where its row lies inside the file, in its slot of its kind's section: the row's word; NO-HASH exactly if there is no
+-- section; ELEMENT exactly if the row is no word.
+pub data DigestSaid (s : List ℕ) (i slot : ℕ) (section : HashSection) : Outcome (List ℕ) → Type 0 where
+  word : (at : ByteOffset) → section ≡ At at → notElements (fourAt s (rowAt (at .0) 32 slot)) ≡ false → DigestSaid s i slot section (accepted (fourAt s (rowAt (at .0) 32 slot)))
+  no-hash : section ≡ Absent → DigestSaid s i slot section (refused NO-HASH i)
+  no-element : (at : ByteOffset) → section ≡ At at → notElements (fourAt s (rowAt (at .0) 32 slot)) ≡ true → DigestSaid s i slot section (refused ELEMENT i)

@@ -1,13 +1,12 @@
 // The digest of a node by its index: in the section of its kind, in its slot, which is counted or
 // taken from a lent table. Digest rows are not held against the section's count: a layout record may
 // say anything, and each reader looks at the bytes again.
-use info::MastNodeEntry;
+use info::node::is_external;
 use layout::forest::ForestLayout;
 use layout::forest::HashSection;
 use rows::EntryPass;
 use rows::RowEntry;
 use rows::RowPlace;
-use rows::external_one;
 use rows::read_entries;
 use rows::row_entry;
 use rows::row_place;
@@ -19,7 +18,6 @@ use wire::word::read_word;
 ghost use mathlib.Core.Path.{_≡_};
 ghost use Prim.Native.Nat.{_-_};
 ghost use Rattle.wire.specs.Table.{pick};
-ghost use Rattle.info.specs.Entry.{isExternal};
 ghost use Rattle.rows.specs.Rows.{rowPlace};
 ghost use Rattle.resolved.specs.Digests.{sectionOf, digestAt, digestIn, noDigest, digestByCounting, digestWithTable, digestOf};
 ghost use Rattle.resolved.specs.Shown.{shownDigest};
@@ -89,13 +87,6 @@ fn digest_in(s: &[u8], layout: ForestLayout, index: usize, external: bool, slot:
         HashSection::Absent => refuse(Refusal::NoHash, index),
         HashSection::At(section) => digest_at(s, index, section, slot),
     }
-}
-
-// Whether a node is External.
-fn is_external(entry: MastNodeEntry) -> bool
-    ensures { λ r. ⌜ r ≡ isExternal entry ⌝ }
-{
-    external_one(entry) == 1
 }
 
 // The slot of a node of a kind after so many others, some of them External.

@@ -1,6 +1,6 @@
-// The slot table: each node's number among the earlier nodes of its kind, in a table that the caller
+// The slot table: each node's number among the earlier nodes of its kind, External or not, in a table that the caller
 // lends. Two passes, so that a refused table is as it was: the first reads every entry, the second
-// needs only each node's kind, which is in the top byte of its row.
+// needs only each node's tag, which is in the top byte of its row.
 use layout::facts::Bound;
 use layout::forest::ForestLayout;
 use rows::EntryPass;
@@ -55,7 +55,8 @@ fn either(first: bool, a: u32, b: u32) -> u32
     b
 }
 
-// Writes the slots of the first n nodes, whose rows all have entries. Without a branch.
+// Writes the slots of the first n nodes, whose rows all have entries. Without a branch: the test of the top byte is
+// `is_external` of the row's entry (`top-kind` in proofs/SlotLaws.antt).
 fn fill_slots(s: &[u8], first: ByteOffset, n: usize, table: &mut [u32])
     requires { ⌜ (n ≤ 2 ^ 30) × ((n ≤ length (now table)) × (0 < n → first .0 + 8 * n ≤ length (now s))) ⌝ }
     ensures { λ _. ⌜ now (table .exit) ≡ slotsOf (externalRow (now (s .entry)) (first .0)) n ++ drop n (now (table .entry)) ⌝ }

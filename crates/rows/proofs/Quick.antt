@@ -1,21 +1,20 @@
 -- Why the survey is right: what it gathers of the upper halves shows that every row has an entry.
 -- Assumes nothing.
 use mathlib.Core.Path.{_≡_, refl, sym, _∙_}
-use mathlib.Core.Bool.{Bool, _&&_}
+use mathlib.Core.Bool.{_&&_}
 use mathlib.Core.List.{[], _∷_}
-use Prim.Native.Nat.{ℕ, zero, suc, _+_, _*_, _-_, _/_, _%_, _^_, _<_, _≤_}
+use Prim.Native.Nat.{ℕ, _+_, _*_, _-_, _/_, _%_, _^_, _<_, _≤_}
 use native.Mathlib.Omega.{arith}
 use lib.Bits.{bitOr, or-mod, or-add-and, and-le-l, and-le-r}
 use lib.Dec.{ltb, leb}
-use lib.ListN.{getD}
 use Rattle.wire.specs.Table.{Outcome, rule, accepted, firstMet, _>>=_}
 use Rattle.wire.specs.Refusals.{TAG, PAYLOAD}
-use Rattle.info.specs.Entry.{kinds, entryOf, badTag, badPayload, decodeRules, decodeOutcome}
+use Rattle.info.specs.Entry.{entryFrom, entryOf, badTag, badPayload, decodeRules, decodeOutcome}
 use Rattle.info.specs.declared.MastNodeEntry.{MastNodeEntry}
-use Rattle.info.specs.declared.MastNodeEntry.the-variants.{External}
 use Rattle.info.proofs.Cases.{single-fits}
-use Rattle.rows.specs.Rows.{externalOne, Begun}
-use Rattle.rows.proofs.Pass.{pass-next}
+use Rattle.info.proofs.NodeLaws.{by-tag}
+use Rattle.rows.specs.Rows.{countExternal, Begun}
+use Rattle.rows.proofs.Pass.{step-next}
 
 -- an `or` ends in zeros only if both sides do
 or-zero : (a b : ℕ) → bitOr a b ≡ 0 → (a ≡ 0) × (b ≡ 0)
@@ -28,26 +27,29 @@ or-zeros a b k h = or-zero (a % 2 ^ k) (b % 2 ^ k) (sym (or-mod a b k) ∙ h)
 -- a row that says what a tag and a payload say, counted
 abbrev counted : ℕ → ℕ → ℕ → ℕ → Outcome ℕ
 counted i t p e =
-    firstMet (rule TAG i (ltb 8 t) ∷ rule PAYLOAD i ((leb 2 t && leb t 5) && ltb (2 ^ 32 - 1) p) ∷ []) (getD kinds t (λ q. External) p)
-    >>= (λ x. accepted (e + externalOne x))
+    firstMet (rule TAG i (ltb 8 t) ∷ rule PAYLOAD i ((leb 2 t && leb t 5) && ltb (2 ^ 32 - 1) p) ∷ []) (entryFrom t p) >>= countExternal i e
 
 -- by the tag: a tag below 9, with a payload that fits, has an entry; the count grows with tag 8
 tag-read : (t p i e : ℕ) → t < 9 → (2 ≤ t → t < 6 → p < 2 ^ 32) → counted i t p e ≡ accepted (e + t / 8)
 unfolding firstMet _>>=_
-tag-read zero p i e h f = refl
-tag-read (suc zero) p i e h f = refl
-tag-read (suc (suc zero)) p i e h f = rw (single-fits p (f (omega arith) (omega arith)))
-tag-read (suc (suc (suc zero))) p i e h f = rw (single-fits p (f (omega arith) (omega arith)))
-tag-read (suc (suc (suc (suc zero)))) p i e h f = rw (single-fits p (f (omega arith) (omega arith)))
-tag-read (suc (suc (suc (suc (suc zero))))) p i e h f = rw (single-fits p (f (omega arith) (omega arith)))
-tag-read (suc (suc (suc (suc (suc (suc zero)))))) p i e h f = refl
-tag-read (suc (suc (suc (suc (suc (suc (suc zero))))))) p i e h f = refl
-tag-read (suc (suc (suc (suc (suc (suc (suc (suc zero)))))))) p i e h f = refl
-tag-read (suc (suc (suc (suc (suc (suc (suc (suc (suc t))))))))) p i e h f = absurd (omega arith)
+tag-read t p i e h f =
+    by-tag (λ t. (2 ≤ t → t < 6 → p < 2 ^ 32) → counted i t p e ≡ accepted (e + t / 8))
+    (λ f. refl)
+    (λ f. refl)
+    (λ f. rw (single-fits p (f (omega arith) (omega arith))))
+    (λ f. rw (single-fits p (f (omega arith) (omega arith))))
+    (λ f. rw (single-fits p (f (omega arith) (omega arith))))
+    (λ f. rw (single-fits p (f (omega arith) (omega arith))))
+    (λ f. refl)
+    (λ f. refl)
+    (λ f. refl)
+    t
+    (omega arith)
+    f
 
 -- the same by the word's upper half
 half-read : (w h i e : ℕ) → h ≡ w / 2 ^ 32 → h < 9 * 2 ^ 28 → (2 * 2 ^ 28 ≤ h → h < 6 * 2 ^ 28 → h % 2 ^ 28 ≡ 0) →
-    (decodeOutcome i w >>= (λ x. accepted (e + externalOne x))) ≡ accepted (e + h / 2 ^ 31)
+    (decodeOutcome i w >>= countExternal i e) ≡ accepted (e + h / 2 ^ 31)
 unfolding decodeOutcome decodeRules entryOf badTag badPayload
 half-read w h i e q low f =
     let tag : h / 2 ^ 31 ≡ w / 2 ^ 60 / 8 = omega arith in
@@ -63,5 +65,5 @@ survey-next read i e w h singles single top top' row q f larger so-far zeros low
     let z : (singles % 2 ^ 28 ≡ 0) × (single % 2 ^ 28 ≡ 0) = or-zeros singles single 28 zeros in
     let begun : Begun read i e = so-far (z .0) (omega arith) in (
       omega arith,
-      rw (pass-next read i e (begun .1), row) (half-read w h i e q (omega arith) (λ two six. rw (f two six) at (z .1))),
+      rw (step-next read countExternal 0 i e (begun .1), row) (half-read w h i e q (omega arith) (λ two six. rw (f two six) at (z .1))),
     )

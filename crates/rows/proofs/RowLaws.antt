@@ -1,6 +1,6 @@
 -- Rows by their number: the cases of a row's place and of the entry in a row.
 -- Assumes nothing.
-use mathlib.Core.Path.{_≡_, refl, sym, ap, _∙_}
+use mathlib.Core.Path.{_≡_, refl, ap, _∙_}
 use mathlib.Core.Bool.{Bool, true, false}
 use mathlib.Core.List.{List}
 use Prim.Native.Nat.{ℕ, _+_, _-_, _*_, _/_, _^_, _≤_, _<_}
@@ -11,13 +11,11 @@ use lib.Dec.{ltb}
 use lib.ListN.{length}
 use Rattle.wire.specs.Table.{refused, accepted, pick, firstMet, At}
 use Rattle.wire.specs.Refusals.{OVERFLOW}
-use Rattle.wire.specs.Le.{leAt, isShort}
 use Rattle.wire.specs.declared.units.ByteOffset.{ByteOffset}
 use Rattle.wire.proofs.Tables.{accepted-none, replaced-accepted, replaced-refused}
 use Rattle.info.specs.Entry.{entryOf, decodeRules, decodeOutcome, entryRules, entryOutcome}
 use Rattle.info.specs.declared.MastNodeEntry.{MastNodeEntry}
 use Rattle.rows.specs.Rows.{rowAt, rowOver, rowPlace, rowWord, rowRules, rowOutcome}
-use Rattle.rows.specs.declared.RowPlace.{RowPlace}
 use Rattle.rows.specs.declared.RowPlace.the-variants as place
 
 -- ---- where a row lies

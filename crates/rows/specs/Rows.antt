@@ -1,13 +1,13 @@
--- Rows of a section by their number, and the pass over the entries.
+-- Rows of a section by their number, and the pass over the nodes.
 use Prim.Native.Nat.{ℕ, zero, suc, _+_, _*_, _≤_}
 use mathlib.Core.Path.{_≡_}
 use mathlib.Core.Bool.{Bool}
-use mathlib.Core.List.{List, [], _∷_}
-use lib.Dec.{leb}
+use mathlib.Core.List.{List, _∷_}
 use Rattle.wire.specs.Table.{Rule, rule, Outcome, accepted, pick, firstMet, _>>=_}
 use Rattle.wire.specs.Refusals.{SHORT, OVERFLOW}
 use Rattle.wire.specs.Le.{leAt, isShort, over}
-use Rattle.info.specs.Entry.{entryOf, isExternal, decodeRules}
+use Rattle.info.specs.Node.{isExternal}
+use Rattle.info.specs.Entry.{entryOf, decodeRules}
 use Rattle.info.specs.declared.MastNodeEntry.{MastNodeEntry}
 use Rattle.rows.specs.declared.RowPlace.{RowPlace}
 use Rattle.rows.specs.declared.RowPlace.the-variants.{At, Over}
@@ -39,14 +39,26 @@ rowRules s first i =
 unfoldable pub rowOutcome : List ℕ → ℕ → ℕ → Outcome MastNodeEntry
 rowOutcome s first i = firstMet (rowRules s first i) (entryOf (rowWord s first i))
 
--- ---- the entries from first to last, where `read i` is what row i says: the first refusal, or how many are External
+-- ---- the nodes from first to last, where `read i` is what row i says
 
+-- One node: an entry refusal stands; else the entry is judged. `judge` is given the node, what the nodes before it handed on, and the entry.
+abbrev pub nodeStep : {A : Type 0} → (ℕ → Outcome MastNodeEntry) → (ℕ → A → MastNodeEntry → Outcome A) → ℕ → A → Outcome A
+nodeStep read judge i = λ before. read i >>= judge i before
+
+-- The nodes from 0 on, each judged before the next one is read; the first refusal stands.
+unfoldable pub nodePass : {A : Type 0} → (ℕ → Outcome MastNodeEntry) → (ℕ → A → MastNodeEntry → Outcome A) → A → ℕ → Outcome A
+nodePass read judge start zero = accepted start
+nodePass read judge start (suc n) = nodePass read judge start n >>= nodeStep read judge n
+
+-- The pass that judges nothing: the first refusal, or how many are External.
 abbrev pub externalOne : MastNodeEntry → ℕ
 externalOne e = pick (isExternal e) 1 0
 
-unfoldable pub entryPass : (ℕ → Outcome MastNodeEntry) → ℕ → Outcome ℕ
-entryPass read zero = accepted 0
-entryPass read (suc n) = entryPass read n >>= (λ externals. read n >>= (λ e. accepted (externals + externalOne e)))
+abbrev pub countExternal : ℕ → ℕ → MastNodeEntry → Outcome ℕ
+countExternal i externals = λ e. accepted (externals + externalOne e)
+
+abbrev pub entryPass : (ℕ → Outcome MastNodeEntry) → ℕ → Outcome ℕ
+entryPass read n = nodePass read countExternal 0 n
 
 -- ---- inner contracts only: what the loops hand to each other
 

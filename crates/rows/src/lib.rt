@@ -1,8 +1,9 @@
 // Rows of a section by their number: where a row lies, the entry in a row, and the pass over all
-// entries. The pass is quick where nothing is wrong: blocks of rows are surveyed without a branch, and
-// the plain loop goes on from the first block in doubt, so a doubt costs time and never truth.
+// entries. The pass is quick where nothing is wrong: strips of rows are surveyed without a branch, and
+// the plain loop goes on from the first strip in doubt, so a doubt costs time and never truth.
 use info::EntryRead;
 use info::MastNodeEntry;
+use info::node::is_external;
 use info::read_entry;
 use wire::refusal::Refusal;
 use wire::units::ByteOffset;
@@ -15,8 +16,8 @@ ghost use Rattle.rows.specs.Shown.{shownRow, shownPass};
 
 const MAX: usize = 0xFFFF_FFFF_FFFF_FFFF;
 
-// Rows to a block of the survey.
-const BLOCK: usize = 4096;
+// Rows to a strip of the survey.
+const STRIP: usize = 4096;
 
 // Where a row starts, or that its end is above 2^64 - 1.
 pub enum RowPlace {
@@ -76,10 +77,10 @@ pub fn row_entry(s: &[u8], first: ByteOffset, i: usize) -> RowEntry
 pub fn external_one(entry: MastNodeEntry) -> usize
     ensures { λ r. ⌜ r ≡ externalOne entry ⌝ }
 {
-    match entry {
-        MastNodeEntry::External => 1,
-        _ => 0,
+    if is_external(entry) {
+        return 1;
     }
+    0
 }
 
 // The plain pass from row `from` on, after `before` externals: one entry at a time.
@@ -137,7 +138,8 @@ fn word(s: &[u8], at: usize) -> u64
     word_in(s, at)
 }
 
-// The upper half of a word. Tag, external bit and all of a payload that can be too long lie there.
+// The upper half of a word. The tag, which is the kind, with its bit of External, and all of a payload that can be too long
+// lie there.
 fn upper(s: &[u8], at: usize) -> u32
     requires { ⌜ at + 8 ≤ length (now s) ⌝ }
     ensures { λ r. ⌜ r ≡ leAt (now (s .entry)) at 8 / 2 ^ 32 ⌝ }
@@ -168,7 +170,7 @@ fn larger(a: u32, b: u32) -> u32
     a
 }
 
-// A block of rows inside the file, with no branch and no early end, so that it compiles to vector code.
+// A strip of rows inside the file, with no branch and no early end, so that it compiles to vector code.
 // What it gathers can only show that all is well, and that is all it promises.
 fn survey_rows(s: &[u8], first: ByteOffset, from: usize, to: usize) -> Survey
     requires { ⌜ (from ≤ to) × ((to ≤ from + 4096) × (first .0 + 8 * to ≤ length (now s))) ⌝ }
@@ -202,15 +204,15 @@ fn smaller(a: usize, b: usize) -> usize
     b
 }
 
-// The entries of n rows inside the file: block by block, and plainly from the first block in doubt.
-fn read_blocks(s: &[u8], first: ByteOffset, n: usize) -> EntryPass
+// The entries of n rows inside the file: strip by strip, and plainly from the first strip in doubt.
+fn read_strips(s: &[u8], first: ByteOffset, n: usize) -> EntryPass
     requires { ⌜ first .0 + 8 * n ≤ length (now s) ⌝ }
     ensures { λ r. ⌜ shownPass r ≡ entryPass (rowOutcome (now (s .entry)) (first .0)) n ⌝ }
 {
     let mut externals: usize = 0;
     let mut i = 0;
     while i < n {
-        let to = i + smaller(BLOCK, n - i);
+        let to = i + smaller(STRIP, n - i);
         match survey_rows(s, first, i, to) {
             Survey::Clean(more) => {
                 externals += more as usize;
@@ -230,7 +232,7 @@ pub fn read_entries(s: &[u8], first: ByteOffset, n: usize) -> EntryPass
 {
     if first.0 <= s.len() {
         if n <= (s.len() - first.0) / 8 {
-            return read_blocks(s, first, n);
+            return read_strips(s, first, n);
         }
     }
     read_each(s, first, n)

@@ -12,7 +12,7 @@ use denote.Builtin.{u8, usize, SliceRefOf}
 use denote.Signature.{plain, namedLft}
 use denote.Struct.Declared.{Declared}
 use denote.Struct.Laws as LL
-use denote.Triple.Entry.{Args, Res}
+use denote.Triple.Entry.{Args}
 use denote.Triple.Clauses.{Ended, AtExit, Clauses}
 use denote.Exit.{yes}
 use Rattle.view.proofs.ForestView as T

@@ -6,7 +6,7 @@
 --     one-form             two strings of one length that read as v are the same
 --     none-shorter         no bytes that read as v are fewer than those of the shortest form
 -- Assumes nothing.
-use mathlib.Core.Path.{_≡_, refl, sym, ap, _∙_}
+use mathlib.Core.Path.{_≡_, sym, ap, _∙_}
 use mathlib.Core.List.{List, [], _∷_, _++_}
 use mathlib.Core.Logic.{_↔_}
 use Prim.Native.Nat.{ℕ, _+_, _^_, _≤_, _<_}
@@ -14,8 +14,8 @@ use native.Mathlib.Nat.{zero-add}
 use native.Mathlib.Omega.{arith}
 use borrow.Author.Tests.{ltb-false}
 use lib.ListN.{length, getD, take, drop, length-append}
-use lib.Seq.{slice, sets-eq, take-at, take-length, drop-append-seam, length-take-le}
-use Rattle.wire.specs.Table.{accepted, At}
+use lib.Seq.{sets-eq, take-at, take-length, drop-append-seam, length-take-le}
+use Rattle.wire.specs.Table.{At}
 use Rattle.wire.specs.Le.{Bytes}
 use Rattle.wire.specs.Counts.{countLength, counted, countRule, countOutcome, Reads, shortestLen, Form, countForm, countBytes, withCount}
 use Rattle.wire.specs.declared.count.Count.{Count}

@@ -11,11 +11,11 @@ use mathlib.Core.List.{List, [], _∷_, _++_}
 use mathlib.Core.Bool.{Bool, false}
 use mathlib.Core.Logic.{_↔_}
 use Prim.Native.Nat.{ℕ, _+_, _≤_, zero-le}
-use native.Mathlib.Nat.{zero-add, add-zero, add-assoc}
+use native.Mathlib.Nat.{zero-add, add-zero}
 use native.Mathlib.Omega.{arith}
 use lib.Dec.{ltb}
 use lib.ListN.{length, take, drop, length-append}
-use lib.Seq.{slice, slice-empty, length-slice, take-add, take-at, drop-at, drop-append-le, length-take-le}
+use lib.Seq.{slice, slice-empty, length-slice, take-at, drop-at}
 use borrow.Author.Tests.{ltb-false, le-ltb}
 use Rattle.wire.specs.Table.{Rule, rule, noneMet}
 use Rattle.wire.specs.Le.{Bytes}

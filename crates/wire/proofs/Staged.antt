@@ -2,7 +2,7 @@
 -- made of others is their stages in a row, so the code's functions can follow the pieces (the Split of `scan`, from the pieces).
 -- Assumes nothing.
 use mathlib.Core.Path.{_≡_, refl}
-use mathlib.Core.List.{List, [], _∷_, _++_}
+use mathlib.Core.List.{List}
 use mathlib.Core.Logic.{_↔_}
 use Prim.Native.Nat.{ℕ}
 use Rattle.wire.specs.Table.{Rule, Outcome, accepted, firstMet, noneMet, _>>=_, At}

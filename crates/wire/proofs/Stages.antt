@@ -3,6 +3,7 @@
 use mathlib.Core.Path.{_≡_, refl, sym, ap, _∙_}
 use mathlib.Core.List.{List, [], _∷_, _++_}
 use mathlib.Core.Bool.{Bool, true, false}
+use mathlib.Core.Logic.{_⊎_, inl, inr}
 use Prim.Native.Nat.{ℕ}
 use native.Mathlib.Omega.{arith}
 use Rattle.wire.specs.Table.{Rule, Outcome, refused, accepted, pick, firstMet, _>>=_}
@@ -39,3 +40,12 @@ module _ {A B : Type 0} where
   unfolding _>>=_
   both-taken (refused n p) k w e = let z : _≡_ {A = ℕ} 0 1 = cc in absurd (omega arith)
   both-taken (accepted v) k w e = (v, refl, e)
+
+  -- stages in a row that refuse: the first does, or it accepts and what follows does
+  pub first-or-later : (m : Outcome A) (k : A → Outcome B) (n p : ℕ) → (m >>= k) ≡ refused n p → (m ≡ refused n p) ⊎ ((v : A) × ((m ≡ accepted v) × (k v ≡ refused n p)))
+  unfolding _>>=_
+  first-or-later (refused a b) k n p e =
+      let number : a ≡ n = cc in
+      let place : b ≡ p = cc in
+      inl (rw (number, place))
+  first-or-later (accepted v) k n p e = inr (v, (refl, e))

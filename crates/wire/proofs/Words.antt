@@ -2,19 +2,19 @@
 --     order-irreflexive, order-transitive, order-total   it is a strict total order
 --     order-same, order-above                            Same is equality, and Above is Below the other way round
 -- Assumes nothing.
-use mathlib.Core.Path.{_≡_, refl, sym, ap, _∙_}
+use mathlib.Core.Path.{_≡_, refl, sym, _∙_}
 use mathlib.Core.Bool.{Bool, true, false, not, _||_, _&&_}
 use mathlib.Core.List.{List, [], _∷_}
 use mathlib.Core.Logic.{_⊎_, inl, inr, ⊎-elim, _↔_}
 use Prim.Native.Nat.{ℕ, suc, _+_, _≤_, _<_}
-use native.Mathlib.Nat.{add-assoc, add-zero}
+use native.Mathlib.Nat.{add-zero}
 use native.Mathlib.Numerals.{add-one}
 use native.Mathlib.Omega.{arith}
 use borrow.Author.Tests.{ltb-true, ltb-false, lt-ltb, le-ltb}
 use lib.Dec.{ltb}
 use lib.ListN.{length, getD, drop}
 use lib.Seq.{slice, length-slice, take-at, drop-at, drop-cons, drop-length}
-use Rattle.wire.specs.Table.{refused, accepted, pick, firstMet}
+use Rattle.wire.specs.Table.{refused, accepted, firstMet}
 use Rattle.wire.specs.Refusals.{SHORT, ELEMENT, numberOf}
 use Rattle.wire.specs.Le.{leAt, isShort, numberAt}
 use Rattle.wire.specs.Rows.{numbersOf}
@@ -25,7 +25,6 @@ use Rattle.wire.specs.declared.units.ByteOffset.{ByteOffset}
 use Rattle.wire.specs.declared.units.Cursor.{Cursor}
 use Rattle.wire.specs.declared.word.WordCheck.{WordCheck}
 use Rattle.wire.specs.declared.word.WordCheck.the-variants as check
-use Rattle.wire.specs.declared.word.WordOrder.{WordOrder}
 use Rattle.wire.specs.declared.word.WordOrder.the-variants.{Below, Same, Above}
 use Rattle.wire.proofs.Le.{slice-parts}
 use Rattle.wire.proofs.Tables.{accepted-none}

@@ -1,7 +1,7 @@
 -- The entry words, one after the other: what is left of their rules after some, and their written form.
 -- Assumes nothing.
-use mathlib.Core.Path.{_≡_, refl, sym, ap, _∙_}
-use mathlib.Core.List.{List, [], _∷_, _++_, map}
+use mathlib.Core.Path.{_≡_, refl, ap, _∙_}
+use mathlib.Core.List.{List, [], _∷_, map}
 use mathlib.Core.Bool.{Bool, true, false}
 use Prim.Native.Nat.{ℕ, suc, _+_, _≤_, _<_, zero-le}
 use native.Mathlib.Nat.{zero-add}
@@ -9,12 +9,11 @@ use native.Mathlib.Numerals.{add-one}
 use native.Mathlib.Omega.{arith}
 use lib.ListN.{length, drop, getD}
 use lib.Seq.{drop-cons, drop-length}
-use Rattle.wire.specs.Table.{rule, Outcome, refused, accepted, pick, firstMet, noneMet}
-use Rattle.wire.specs.Refusals.{PAYLOAD}
+use Rattle.wire.specs.Table.{Outcome, refused, accepted, pick, firstMet, noneMet}
 use Rattle.wire.proofs.Tables.{none-parts, accepted-none, none-accepted}
-use Rattle.info.specs.Entry.{entryOf, badTag, badPayload, decodeRules, decodeOutcome, wordOf, wideIds, encodeOutcome, canonical}
+use Rattle.info.specs.Entry.{entryOf, badTag, badPayload, decodeRules, decodeOutcome, wordOf, canonical}
 use Rattle.info.specs.declared.MastNodeEntry.{MastNodeEntry}
-use Rattle.info.proofs.Laws.{decoded-encodes}
+use Rattle.info.proofs.Laws.{decoded-word}
 use Rattle.rows.specs.Rows.{externalOne}
 use Rattle.layout.specs.Scan.{wordsRules, externals}
 use Rattle.rows.proofs.Pass.{external-le}
@@ -81,10 +80,8 @@ externals-few (w ∷ ws) = let one : externalOne (entryOf w) ≤ 1 = external-le
 -- ---- the written form of words that read
 
 pub word-written : (at w : ℕ) → noneMet (decodeRules at w) → wordOf (entryOf w) ≡ canonical w
-unfolding decodeOutcome encodeOutcome
-word-written at w ok =
-    accepted-none (rule PAYLOAD 0 (wideIds (entryOf w)) ∷ []) (wordOf (entryOf w)) (canonical w)
-    (decoded-encodes at w (entryOf w) (none-accepted (decodeRules at w) (entryOf w) ok)) .1
+unfolding decodeOutcome
+word-written at w ok = decoded-word at w (entryOf w) (none-accepted (decodeRules at w) (entryOf w) ok)
 
 pub words-written : (at : ℕ) (words : List ℕ) → noneMet (wordsRules 1 at words) → written words ≡ map canonical words
 unfolding wordsRules

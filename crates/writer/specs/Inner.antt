@@ -3,7 +3,7 @@
 use Prim.Native.Nat.{ℕ, zero, suc, _+_, _-_, _*_, _^_, _<_}
 use mathlib.Core.Path.{_≡_}
 use mathlib.Core.Bool.{Bool, true, false, not}
-use mathlib.Core.List.{List, [], _∷_, _++_, map}
+use mathlib.Core.List.{List, [], _∷_, map}
 use mathlib.Core.Logic.{_⊎_}
 use lib.ListN.{length, take, drop}
 use lib.Dec.{ltb, eqb}
@@ -13,7 +13,7 @@ use Rattle.wire.specs.Le.{over}
 use Rattle.wire.specs.Rows.{Below as AllBelow}
 use Rattle.wire.specs.Counts.{shortestLen}
 use Rattle.wire.specs.Words.{wordOrder}
-use Rattle.wire.specs.declared.word.WordOrder.the-variants.{Below, Same, Above}
+use Rattle.wire.specs.declared.word.WordOrder.the-variants.{Below, Above}
 use Rattle.layout.specs.Facts.{share, badFormat, hashBytes}
 use Rattle.layout.specs.Scan.{wordsRules, externals}
 use Rattle.layout.specs.declared.facts.FormatFacts.{FormatFacts}

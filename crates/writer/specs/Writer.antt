@@ -1,7 +1,7 @@
 -- The writer: the file of some parts, what is refused, in the paper's order, and what the output holds afterwards.
 use Prim.Native.Nat.{ℕ, _+_, _-_, _*_}
 use mathlib.Core.List.{List, [], _∷_, _++_, map}
-use mathlib.Core.Bool.{Bool, not}
+use mathlib.Core.Bool.{not}
 use lib.ListN.{length, take, drop}
 use lib.Dec.{ltb, eqb}
 use Rattle.wire.specs.Table.{Rule, rule, Outcome, refused, accepted, firstMet}

@@ -11,7 +11,6 @@ ghost use mathlib.Core.Path.{_≡_};
 ghost use mathlib.Core.Bool.{not};
 ghost use mathlib.Core.List.{[]};
 ghost use Prim.Native.Nat.{_^_, _≤_};
-ghost use lib.ListN.{length};
 ghost use lib.Dec.{eqb};
 ghost use Rattle.wire.specs.Table.{checked};
 ghost use Rattle.layout.specs.Facts.{hashBytes};

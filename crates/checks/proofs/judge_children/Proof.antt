@@ -1,7 +1,9 @@
--- `checks::judge_children` meets its contract: each arm knows which constructor the entry is.
+-- `checks::judge_children` meets its contract: each arm knows which children there are.
 -- Assumes nothing.
+use mathlib.Core.Path.{sym, ap, _∙_}
 use borrow.Author.Needs.{needs}
 use Rattle.wire.specs.Table.{firstMet}
+use Rattle.info.specs.Shown.{shownChildren}
 use Rattle.checks.specs.Checks.{childRules}
 use Rattle.checks.proofs.judge_children.Statement.{statement}
 use Rattle.checks.proofs.judge_children.Tie as tie
@@ -11,21 +13,12 @@ unfolding firstMet childRules
 judge-children-spec =
     tie.close
     (tie.spec
-    (λ c. search needs) (λ c κs. search needs)
-    (λ c. search needs) (λ c κs. search needs)
-    (λ c. search needs) (λ c κs. search needs)
-    (λ c. search needs)
-    (λ c. search needs) (λ c κs. search needs)
-    (λ c. search needs) (λ c κs. search needs)
+    (λ c κs. search needs)
     (λ c. search needs)
     (λ c. search needs)
+    (λ c κs. search needs)
     (λ c. search needs)
-    (λ c. rw (c .before .before .entry .given .1) (c .judge-pair .ensures))
-    (λ c. rw (c .before .before .entry2 .given .1) (c .judge-pair2 .ensures))
-    (λ c. rw (c .before .before .entry3 .given .1) (c .judge-child .ensures))
-    (λ c. rw (c .enum-told .given .1))
-    (λ c. rw (c .before .before .entry4 .given .1) (c .judge-child2 .ensures))
-    (λ c. rw (c .before .before .entry5 .given .1) (c .judge-child3 .ensures))
-    (λ c. rw (c .enum-told2 .given .1))
-    (λ c. rw (c .enum-told3 .given .1))
-    (λ c. rw (c .enum-told4 .given .1)))
+    (λ c κs. search needs)
+    (λ c. rw (sym (c .before .before .children-of .ensures) ∙ ap shownChildren (c .enum-told .given .1)))
+    (λ c. rw (sym (c .before .before .before .before .children-of .ensures) ∙ ap shownChildren (c .before .before .child .given .1)) (c .judge-child .ensures))
+    (λ c. rw (sym (c .before .before .before .before .children-of .ensures) ∙ ap shownChildren (c .before .before .left .given .1)) (c .judge-pair .ensures)))

@@ -2,9 +2,10 @@
 -- Assumes nothing.
 use native.Mathlib.Omega.{arith}
 use borrow.Author.Needs.{needs}
+use Rattle.rows.specs.Rows.{countExternal}
 use Rattle.rows.proofs.Pass.{pass-none}
 use Rattle.rows.proofs.read_each.Statement.{statement}
 use Rattle.rows.proofs.read_each.Tie as tie
 
 pub read-each-spec : {M : Type 1} → statement M
-read-each-spec = tie.close (tie.spec (λ c κs. (omega arith, (omega arith, pass-none _))) (λ c. search needs))
+read-each-spec = tie.close (tie.spec (λ c κs. (omega arith, (omega arith, pass-none _ countExternal 0))) (λ c. search needs))

@@ -4,9 +4,9 @@ use mathlib.Core.Path.{_≡_, sym, ap, _∙_}
 use Prim.Native.Nat.{_-_, _≤_}
 use native.Mathlib.Omega.{arith}
 use borrow.Author.Needs.{needs}
-use Rattle.rows.specs.Rows.{rowOutcome, Begun}
+use Rattle.rows.specs.Rows.{rowOutcome, countExternal, Begun}
 use Rattle.rows.specs.Shown.{shownRow}
-use Rattle.rows.proofs.Pass.{pass-entry, pass-stop, external-le}
+use Rattle.rows.proofs.Pass.{external-le, step-read, step-refused, step-goes-on, step-stop}
 use Rattle.rows.proofs.read_from.Statement.{statement}
 use Rattle.rows.proofs.read_from.Tie as tie
 
@@ -21,7 +21,9 @@ stops c =
     let r = c .before .before .before in
     let l = r .before .before .loop in
     let a = r .before .before .before .before .args in
-    sym (pass-stop (rowOutcome (a .s .now) (a .first .0)) (l .i) (a .n) (l .externals) _ _ (omega arith) (l .inv .1 .1) (sym (r .row-entry .ensures) ∙ ap shownRow (c .before .why .given .1)))
+    let read = rowOutcome (a .s .now) (a .first .0) in
+    sym (step-stop read countExternal 0 (l .i) (a .n) _ _ (l .externals) (omega arith) (l .inv .1 .1)
+    (step-refused read countExternal (l .i) (l .externals) _ _ (sym (r .row-entry .ensures) ∙ ap shownRow (c .before .why .given .1))))
 
 one : (c : tie.After-external-one Inv-loop μ-loop) → c .external-one .result ≤ 1
 one c = rw (c .external-one .ensures) (external-le (c .before .before .entry .given .0 .0))
@@ -30,12 +32,14 @@ again : tie.Need-loop-again Inv-loop μ-loop
 again c =
     let r = c .before .before .before .before in
     let l = r .before .before .loop in
-    let a = r .before .before .before .before .args in (
+    let a = r .before .before .before .before .args in
+    let read = rowOutcome (a .s .now) (a .first .0) in (
       omega arith,
       (
         omega (arith, one c),
         rw (c .external-one .ensures)
-            (pass-entry (rowOutcome (a .s .now) (a .first .0)) (l .i) (l .externals) _ (l .inv .1 .1) (sym (r .row-entry .ensures) ∙ ap shownRow (c .before .before .entry .given .1))),
+            (step-goes-on read countExternal 0 (l .i) (l .externals) _ (l .inv .1 .1)
+            (step-read read countExternal (l .i) (l .externals) _ (sym (r .row-entry .ensures) ∙ ap shownRow (c .before .before .entry .given .1)))),
       ),
     )
 

@@ -1,10 +1,8 @@
 -- `rows::row_place` meets its contract.
 -- Assumes nothing.
-use mathlib.Core.Path.{sym, ap}
-use native.Mathlib.Nat.{zero-mul}
+use mathlib.Core.Path.{sym}
 use native.Mathlib.Omega.{arith}
 use borrow.Author.Needs.{needs}
-use Rattle.rows.specs.Rows.{rowPlace}
 use Rattle.rows.proofs.RowLaws.{over-place, at-place, too-far, near-enough, no-size}
 use Rattle.rows.proofs.row_place.Statement.{statement}
 use Rattle.rows.proofs.row_place.Tie as tie

@@ -1,18 +1,14 @@
 -- `capi::calls::vk_digest` meets its contract: what was said is laid into the lent row. Assumes nothing.
-use mathlib.Core.Path.{ap, _∙_}
-use denote.Ref.{now}
 use borrow.Author.Needs.{needs}
-use Rattle.capi.specs.Rows.{answerNumber, answered}
+use Rattle.capi.proofs.Stores.{told}
 use Rattle.capi.proofs.calls.vk_digest.Statement.{statement}
 use Rattle.capi.proofs.calls.vk_digest.Tie as tie
 
-returns : tie.Need-returns
-returns c =
-    let t = c .before .before in
-    let r = t .before .before in
-    let a = r .before .before .before .before .args in
-    let e = r .digest-said .ensures in
-    (t .tell .ensures .0 ∙ ap (answerNumber 4 (now (a .answer))) e, t .tell .ensures .1 ∙ ap (answered 4 (now (a .answer))) e)
-
 pub vk-digest-spec : {M : Type 1} → statement M
-vk-digest-spec = tie.close (tie.spec (λ c κs. search needs) (λ c κs. search needs) (λ c. search needs) returns)
+vk-digest-spec =
+    tie.close
+    (tie.spec
+    (λ c κs. search needs)
+    (λ c κs. search needs)
+    (λ c. search needs)
+    (λ c. let t = c .before .before in told _ _ _ _ (t .before .before .digest-said .ensures) _ _ (t .tell .ensures)))

@@ -1,18 +1,14 @@
 -- `capi::calls::vk_entry` meets its contract: what was said is laid into the lent row. Assumes nothing.
-use mathlib.Core.Path.{ap, _∙_}
-use denote.Ref.{now}
 use borrow.Author.Needs.{needs}
-use Rattle.capi.specs.Rows.{answerNumber, answered}
+use Rattle.capi.proofs.Stores.{told}
 use Rattle.capi.proofs.calls.vk_entry.Statement.{statement}
 use Rattle.capi.proofs.calls.vk_entry.Tie as tie
 
-returns : tie.Need-returns
-returns c =
-    let t = c .before .before in
-    let r = t .before .before in
-    let a = r .before .before .before .before .args in
-    let e = r .entry-said .ensures in
-    (t .tell-three .ensures .0 ∙ ap (answerNumber 3 (now (a .answer))) e, t .tell-three .ensures .1 ∙ ap (answered 3 (now (a .answer))) e)
-
 pub vk-entry-spec : {M : Type 1} → statement M
-vk-entry-spec = tie.close (tie.spec (λ c κs. search needs) (λ c κs. search needs) (λ c. search needs) returns)
+vk-entry-spec =
+    tie.close
+    (tie.spec
+    (λ c κs. search needs)
+    (λ c κs. search needs)
+    (λ c. search needs)
+    (λ c. let t = c .before .before in told _ _ _ _ (t .before .before .entry-said .ensures) _ _ (t .tell-three .ensures)))

@@ -1,18 +1,14 @@
 -- `capi::calls::vk_scan` meets its contract: what was said is laid into the lent row. Assumes nothing.
-use mathlib.Core.Path.{ap, _∙_}
-use denote.Ref.{now}
 use borrow.Author.Needs.{needs}
-use Rattle.capi.specs.Rows.{answerNumber, answered}
+use Rattle.capi.proofs.Stores.{told}
 use Rattle.capi.proofs.calls.vk_scan.Statement.{statement}
 use Rattle.capi.proofs.calls.vk_scan.Tie as tie
 
-returns : tie.Need-returns
-returns c =
-    let t = c .before .before in
-    let r = t .before .before in
-    let a = r .before .before .before .before .args in
-    let e = r .scan-said .ensures in
-    (t .tell .ensures .0 ∙ ap (answerNumber 12 (now (a .answer))) e, t .tell .ensures .1 ∙ ap (answered 12 (now (a .answer))) e)
-
 pub vk-scan-spec : {M : Type 1} → statement M
-vk-scan-spec = tie.close (tie.spec (λ c κs. search needs) (λ c κs. search needs) (λ c. search needs) returns)
+vk-scan-spec =
+    tie.close
+    (tie.spec
+    (λ c κs. search needs)
+    (λ c κs. search needs)
+    (λ c. search needs)
+    (λ c. let t = c .before .before in told _ _ _ _ (t .before .before .scan-said .ensures) _ _ (t .tell .ensures)))

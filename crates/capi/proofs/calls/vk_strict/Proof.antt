@@ -1,18 +1,14 @@
 -- `capi::calls::vk_strict` meets its contract: what was said is laid into the lent row. Assumes nothing.
-use mathlib.Core.Path.{ap, _∙_}
-use denote.Ref.{now}
 use borrow.Author.Needs.{needs}
-use Rattle.capi.specs.Rows.{answerNumber, answered}
+use Rattle.capi.proofs.Stores.{told}
 use Rattle.capi.proofs.calls.vk_strict.Statement.{statement}
 use Rattle.capi.proofs.calls.vk_strict.Tie as tie
 
-returns : tie.Need-returns
-returns c =
-    let t = c .before .before in
-    let r = t .before .before in
-    let a = r .before .before .before .before .args in
-    let e = r .strict-said .ensures in
-    (t .tell .ensures .0 ∙ ap (answerNumber 1 (now (a .answer))) e, t .tell .ensures .1 ∙ ap (answered 1 (now (a .answer))) e)
-
 pub vk-strict-spec : {M : Type 1} → statement M
-vk-strict-spec = tie.close (tie.spec (λ c κs. search needs) (λ c κs. search needs) (λ c. search needs) returns)
+vk-strict-spec =
+    tie.close
+    (tie.spec
+    (λ c κs. search needs)
+    (λ c κs. search needs)
+    (λ c. search needs)
+    (λ c. let t = c .before .before in told _ _ _ _ (t .before .before .strict-said .ensures) _ _ (t .tell .ensures)))

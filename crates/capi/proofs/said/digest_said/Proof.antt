@@ -1,38 +1,15 @@
 -- `capi::said::digest_said` meets its contract: the refusal of what is given, or the answer over it. Assumes nothing.
-use mathlib.Core.Path.{sym, ap, _∙_}
-use denote.Ref.{now}
+use mathlib.Core.Path.{ap, _∙_}
 use borrow.Author.Needs.{needs}
-use Rattle.wire.specs.Table.{_>>=_}
-use Rattle.layout.specs.declared.forest.ForestLayout.{ForestLayout}
-use Rattle.resolved.specs.Digests.{digestByCounting}
+use Rattle.wire.proofs.Stages.{stops, goes-on}
 use Rattle.capi.specs.Rows.{laid, fourRow}
-use Rattle.capi.specs.Given.{layoutOf}
 use Rattle.capi.specs.Shown.{shownRecord}
 use Rattle.capi.specs.Calls.{digestCall}
-use Rattle.capi.proofs.Stores.{stays, goes}
 use Rattle.capi.proofs.said.digest_said.Statement.{statement}
 use Rattle.capi.proofs.said.digest_said.Tie as tie
 
-returns : tie.Need-returns
-unfolding digestCall
-returns c =
-    let y = c .before in
-    let r = y .before .before in
-    let a = r .before .before .before .args in
-    stays (λ (l : ForestLayout). laid fourRow (digestByCounting (now (a .s)) l (a .index))) (layoutOf (now (a .layout))) _ _ (ap shownRecord (sym (y .why .given .1)) ∙ r .record-of .ensures)
-
-returns-2 : tie.Need-returns-2
-unfolding digestCall
-returns-2 c =
-    let q = c .before in
-    let y = q .before .before in
-    let r = y .before .before in
-    let a = r .before .before .before .args in
-    c .digest-told .ensures
-    ∙ ap (laid fourRow) (q .digest-by-counting .ensures .0)
-    ∙ goes (λ (l : ForestLayout). laid fourRow (digestByCounting (now (a .s)) l (a .index))) (layoutOf (now (a .layout))) _ (ap shownRecord (sym (y .l .given .1)) ∙ r .record-of .ensures)
-
 pub digest-said-spec : {M : Type 1} → statement M
+unfolding digestCall
 digest-said-spec =
     tie.close
     (tie.spec
@@ -41,5 +18,8 @@ digest-said-spec =
     (λ c. search needs)
     (λ c κs. search needs)
     (λ c κs. search needs)
-    returns
-    returns-2)
+    (λ c. stops _ _ _ _ _ (c .before .before .before .record-of .ensures) (ap shownRecord (c .before .why .given .1)))
+    (λ c.
+    let q = c .before in
+    let y = q .before .before in
+    goes-on _ _ _ _ _ (y .before .before .record-of .ensures) (ap shownRecord (y .l .given .1)) (c .digest-told .ensures ∙ ap (laid fourRow) (q .digest-by-counting .ensures .0))))

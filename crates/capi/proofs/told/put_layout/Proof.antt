@@ -3,9 +3,7 @@ use mathlib.Core.Path.{sym, ap, _∙_}
 use mathlib.Core.List.{List, [], _∷_}
 use Prim.Native.Nat.{ℕ}
 use lib.Seq.{sets}
-use denote.Ref.{now}
 use borrow.Author.Needs.{needs}
-use Rattle.capi.specs.Rows.{layoutRow}
 use Rattle.capi.proofs.told.put_layout.Statement.{statement}
 use Rattle.capi.proofs.told.put_layout.Tie as tie
 

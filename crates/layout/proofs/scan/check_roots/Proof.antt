@@ -3,24 +3,24 @@
 use borrow.Author.Needs.{needs}
 use Rattle.wire.specs.Table.{firstMet}
 use Rattle.layout.proofs.Tests.{tests}
-use Rattle.layout.specs.Steps.{rootRules}
+use Rattle.layout.specs.Steps.{rootSectionRules}
 use Rattle.layout.proofs.scan.check_roots.Statement.{statement}
 use Rattle.layout.proofs.scan.check_roots.Tie as tie
 
 returns : tie.Need-returns
-unfolding firstMet rootRules
+unfolding firstMet rootSectionRules
 returns c = search tests depth 12
 
 returns-2 : tie.Need-returns-2
-unfolding firstMet rootRules
+unfolding firstMet rootSectionRules
 returns-2 c = search tests depth 12
 
 returns-3 : tie.Need-returns-3
-unfolding firstMet rootRules
+unfolding firstMet rootSectionRules
 returns-3 c = search tests depth 12
 
 returns-4 : tie.Need-returns-4
-unfolding firstMet rootRules
+unfolding firstMet rootSectionRules
 returns-4 c = search tests depth 12
 
 pub check-roots-spec : {M : Type 1} → statement M

@@ -1,6 +1,5 @@
 -- `layout::scan::fixed_bytes` meets its contract.
 -- Assumes nothing.
-use native.Mathlib.Omega.{arith}
 use borrow.Author.Needs.{needs}
 use Rattle.layout.proofs.scan.fixed_bytes.Statement.{statement}
 use Rattle.layout.proofs.scan.fixed_bytes.Tie as tie

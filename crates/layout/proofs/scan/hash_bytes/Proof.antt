@@ -1,6 +1,5 @@
 -- `layout::scan::hash_bytes` meets its contract.
 -- Assumes nothing.
-use mathlib.Core.Path.{refl}
 use native.Mathlib.Omega.{arith}
 use borrow.Author.Needs.{needs}
 use Rattle.layout.proofs.scan.hash_bytes.Statement.{statement}

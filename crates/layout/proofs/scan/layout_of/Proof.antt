@@ -1,6 +1,5 @@
 -- `layout::scan::layout_of` meets its contract.
 -- Assumes nothing.
-use native.Mathlib.Omega.{arith}
 use borrow.Author.Needs.{needs}
 use Rattle.layout.proofs.scan.layout_of.Statement.{statement}
 use Rattle.layout.proofs.scan.layout_of.Tie as tie

@@ -1,6 +1,5 @@
 -- `layout::scan::scan_blocks` meets its contract: each `return` follows from what the stages before it said.
 -- Assumes nothing.
-use native.Mathlib.Omega.{arith}
 use borrow.Author.Needs.{needs}
 use Rattle.layout.specs.Steps.{blocksOutcome}
 use Rattle.layout.proofs.Stages.{stages, sections-inside}

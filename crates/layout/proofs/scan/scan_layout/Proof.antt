@@ -9,20 +9,21 @@ use Rattle.layout.proofs.scan.scan_layout.Tie as tie
 
 returns : tie.Need-returns
 unfolding stagesOutcome
-returns c = rw split (search stages)
+returns c = (rw split (search stages), search needs)
 
 returns-2 : tie.Need-returns-2
 unfolding stagesOutcome
-returns-2 c = rw split (search stages)
+returns-2 c = (rw split (search stages), search needs)
 
 returns-3 : tie.Need-returns-3
 unfolding stagesOutcome
-returns-3 c = rw split (search stages)
+returns-3 c = (rw split (search stages), search needs)
 
 pub scan-layout-spec : {M : Type 1} → statement M
 scan-layout-spec =
     tie.close
     (tie.spec
+    (λ c κs. search needs)
     (λ c κs. search needs)
     (λ c. search needs)
     returns

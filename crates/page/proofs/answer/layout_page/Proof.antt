@@ -1,12 +1,12 @@
--- `page::answer::layout_page` meets its contract: the text of what the size, the scan and the walk said.
+-- `page::answer::layout_page` meets its contract: the text of what the size, or scan and walk, said.
 -- Assumes nothing.
 use mathlib.Core.Path.{sym, ap, _∙_}
 use borrow.Author.Needs.{needs}
 use denote.Ref.{now}
 use lib.ListN.{length}
-use Rattle.layout.specs.Shown.{shownScan}
-use Rattle.page.specs.Text.{textOutcome, withText}
-use Rattle.page.proofs.AnswerLaws.{too-long, too-long-keys, scan-refused, scan-refused-keys, scan-accepted, scan-accepted-keys}
+use Rattle.whole.specs.Shown.{shownWhole}
+use Rattle.text.specs.Text.{textOutcome, withText}
+use Rattle.page.proofs.AnswerLaws.{too-long, too-long-keys, whole-refused, whole-accepted, whole-keys}
 use Rattle.page.proofs.answer.layout_page.Statement.{statement}
 use Rattle.page.proofs.answer.layout_page.Tie as tie
 
@@ -24,26 +24,24 @@ returns-2 : tie.Need-returns-2
 returns-2 c =
     let w = c .before .before in
     let y = w .before .before .before in
-    let k = y .before .before in
-    let i = k .before in
+    let k = y .before .before .before .before in
+    let i = k .before .before in
     let a = i .before .before .before .before .args in
-    let said = ap shownScan (sym (y .why .given .1)) ∙ k .scan-layout .ensures in
-    let e = scan-refused (a .f) (now (a .s)) (i .if1 .left) _ _ (length (now (a .keys))) said in (
+    let e = whole-refused (a .f) (now (a .s)) (i .if1 .left) _ _ (length (now (a .keys))) (ap shownWhole (sym (y .why .given .1)) ∙ k .read-whole .ensures .0) in (
       w .write-refusal2 .ensures .0 ∙ ap (textOutcome (now (a .out))) e,
-      (w .write-refusal2 .ensures .1 ∙ ap (withText (now (a .out))) e, scan-refused-keys (a .f) (now (a .s)) (i .if1 .left) _ _ (now (a .keys)) said),
+      (w .write-refusal2 .ensures .1 ∙ ap (withText (now (a .out))) e, k .read-whole .ensures .1 ∙ whole-keys (a .f) (now (a .s)) (i .if1 .left) (now (a .keys))),
     )
 
 returns-3 : tie.Need-returns-3
 returns-3 c =
-    let m = c .before .before .before .before in
-    let y = m .before .before .before .before in
-    let k = y .before .before in
-    let i = k .before in
+    let w = c .before .before in
+    let y = w .before .before .before in
+    let k = y .before .before .before .before in
+    let i = k .before .before in
     let a = i .before .before .before .before .args in
-    let said = ap shownScan (sym (y .l .given .1)) ∙ k .scan-layout .ensures in
-    let e = scan-accepted (a .f) (now (a .s)) (i .if1 .left) _ (length (now (a .keys))) said in (
-      m .map-page .ensures .0 ∙ ap (textOutcome (now (a .out))) e,
-      (m .map-page .ensures .1 .0 ∙ ap (withText (now (a .out))) e, m .map-page .ensures .1 .1 ∙ scan-accepted-keys (a .f) (now (a .s)) (i .if1 .left) _ (now (a .keys)) said),
+    let e = whole-accepted (a .f) (now (a .s)) (i .if1 .left) _ (length (now (a .keys))) (ap shownWhole (sym (y .l .given .1)) ∙ k .read-whole .ensures .0) in (
+      w .write-page .ensures .0 ∙ ap (textOutcome (now (a .out))) e,
+      (w .write-page .ensures .1 ∙ ap (withText (now (a .out))) e, k .read-whole .ensures .1 ∙ whole-keys (a .f) (now (a .s)) (i .if1 .left) (now (a .keys))),
     )
 
 pub layout-page-spec : {M : Type 1} → statement M
@@ -58,6 +56,7 @@ layout-page-spec =
     (λ c κs. search needs)
     (λ c. search needs)
     (λ c κs. search needs)
+    (λ c. search needs)
     (λ c. search needs)
     returns-2
     (λ c. search needs)

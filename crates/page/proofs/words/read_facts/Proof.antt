@@ -4,7 +4,8 @@ use mathlib.Core.Path.{_≡_, sym, ap, _∙_}
 use borrow.Author.Needs.{needs}
 use denote.Ref.{now}
 use Rattle.wire.proofs.Ladder.{ladder}
-use Rattle.page.specs.Words.{wordsCheck, maximumCheck, numberOfWord}
+use Rattle.text.specs.Digits.{numberOfWord}
+use Rattle.page.specs.Words.{wordsCheck, maximumCheck}
 use Rattle.page.specs.declared.words.WordsCheck.the-variants.{Wrong}
 use Rattle.page.proofs.WordLaws.{wrong-facts, taken-facts}
 use Rattle.page.proofs.words.read_facts.Statement.{statement}

@@ -5,9 +5,6 @@ use borrow.Author.Needs.{needs}
 use Rattle.wire.proofs.Le.{le-parts}
 use Rattle.wire.proofs.number.eight_in.Statement.{statement}
 use Rattle.wire.proofs.number.eight_in.Tie as tie
-use Rattle.wire.proofs.number.eight_in.Reads as reads
-use Rattle.wire.proofs.number.eight_in.Lts as lts
-use Rattle.wire.proofs.number.four_in.Reads as four-in-reads
 
 four-in-requires : tie.Need-four-in-requires
 four-in-requires c κs = search needs

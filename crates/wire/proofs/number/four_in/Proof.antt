@@ -5,9 +5,6 @@ use borrow.Author.Needs.{needs}
 use Rattle.wire.proofs.Numbers.{four-bytes}
 use Rattle.wire.proofs.number.four_in.Statement.{statement}
 use Rattle.wire.proofs.number.four_in.Tie as tie
-use Rattle.wire.proofs.number.four_in.Reads as reads
-use Rattle.wire.proofs.number.four_in.Lts as lts
-use Rattle.wire.proofs.number.wide.Reads as wide-reads
 
 shared-slice-read-wide : tie.Need-shared-slice-read-wide
 shared-slice-read-wide c = search needs

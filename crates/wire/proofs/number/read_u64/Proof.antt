@@ -1,9 +1,8 @@
 -- `wire::number::read_u64` meets its contract, by the cases of `numberOutcome`.
 -- Assumes nothing.
-use mathlib.Core.Path.{sym, ap, _∙_}
+use mathlib.Core.Path.{sym, _∙_}
 use native.Mathlib.Omega.{arith}
 use borrow.Author.Needs.{needs}
-use Rattle.wire.specs.Table.{accepted}
 use Rattle.wire.proofs.Numbers.{all-there, read-short, read-whole}
 use Rattle.wire.proofs.number.read_u64.Statement.{statement}
 use Rattle.wire.proofs.number.read_u64.Tie as tie

@@ -1,6 +1,5 @@
 -- `wire::word::read_word` meets its contract: the check's answer, with the word beside it or zeros.
 -- Assumes nothing.
-use mathlib.Core.Path.{_≡_, sym, ap, _∙_}
 use borrow.Author.Needs.{needs}
 use Rattle.wire.proofs.Words.{read-taken, read-refused}
 use Rattle.wire.proofs.word.read_word.Statement.{statement}

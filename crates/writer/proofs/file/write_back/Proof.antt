@@ -1,12 +1,10 @@
 -- `writer::file::write_back` meets its contract: entries and digests, and the map, each into its own part. Assumes nothing.
-use mathlib.Core.Path.{_≡_, refl, sym, _∙_}
 use mathlib.Core.List.{_++_, map}
 use native.Mathlib.Omega.{arith}
 use borrow.Author.Needs.{needs}
 use Prim.Native.Nat.{_+_, _*_, _^_, _<_}
 use lib.ListN.{length, length-append}
 use Rattle.wire.specs.Rows.{rows}
-use Rattle.wire.specs.Counts.{countBytes}
 use Rattle.info.specs.Entry.{canonical}
 use Rattle.writer.specs.Writer.{adviceBytes}
 use Rattle.writer.proofs.Lent.{two}

@@ -1,5 +1,4 @@
 -- `writer::file::write_front` meets its contract: head, roots and blocks, each into its own part. Assumes nothing.
-use mathlib.Core.Path.{sym, _∙_}
 use Prim.Native.Nat.{_+_, _*_, _^_, _<_}
 use lib.ListN.{length}
 use Rattle.wire.specs.Rows.{rows}

@@ -1,5 +1,5 @@
 -- `writer::group::write_map` meets its contract: the count and the entries, each into its own part. Assumes nothing.
-use mathlib.Core.Path.{_≡_, refl, sym, _∙_}
+use mathlib.Core.Path.{sym, _∙_}
 use native.Mathlib.Omega.{arith}
 use borrow.Author.Needs.{needs}
 use Rattle.writer.proofs.Lent.{two}

@@ -1,11 +1,11 @@
 -- `writer::group::write_marks` meets its contract: eight stores, one after the other. Assumes nothing.
-use mathlib.Core.Path.{_≡_, sym, ap, _∙_}
+use mathlib.Core.Path.{sym, ap, _∙_}
 use mathlib.Core.List.{List, _∷_, _++_}
 use Prim.Native.Nat.{ℕ, _<_}
 use native.Mathlib.Omega.{arith}
 use lib.ListN.{length, getD, length-set}
 use borrow.Author.Needs.{needs}
-use Rattle.writer.proofs.Lent.{Begun, begin, store, ended}
+use Rattle.writer.proofs.Lent.{begin, store, ended}
 use Rattle.writer.proofs.Digits.{three-of, four-of}
 use Rattle.writer.proofs.group.write_marks.Statement.{statement}
 use Rattle.writer.proofs.group.write_marks.Tie as tie

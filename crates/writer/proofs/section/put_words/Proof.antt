@@ -1,7 +1,6 @@
 -- `writer::section::put_words` meets its contract. The invariant: the first i rows are written. Assumes nothing.
-use mathlib.Core.Path.{_≡_, ap, _∙_}
+use mathlib.Core.Path.{ap, _∙_}
 use Prim.Native.Nat.{ℕ, _-_}
-use native.Mathlib.Omega.{arith}
 use borrow.Author.Needs.{needs}
 use lib.ListN.{length, getD}
 use Rattle.wire.specs.Le.{leBytes}

@@ -1,5 +1,4 @@
 -- `writer::size::file_size` meets its contract: a chain of `plus` is the sum of all. Assumes nothing.
-use native.Mathlib.Omega.{arith}
 use borrow.Author.Needs.{needs}
 use Rattle.writer.proofs.Sums.{is-sum, sum-step}
 use Rattle.writer.proofs.size.file_size.Statement.{statement}
