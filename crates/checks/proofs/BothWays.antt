@@ -6,12 +6,12 @@
 use mathlib.Core.Path.{_≡_, refl, sym, ap, _∙_}
 use mathlib.Core.Bool.{Bool, true, false, not}
 use mathlib.Core.List.{List, [], _∷_}
-use mathlib.Core.Logic.{inl, inr, _↔_}
+use mathlib.Core.Logic.{_↔_}
 use Prim.Native.Nat.{ℕ, zero, suc, _+_, _≤_, _<_}
 use native.Mathlib.Omega.{arith}
-use borrow.Author.Tests.{ltb-true, ltb-false, lt-leb, le-ltb, eq-eqb}
+use borrow.Author.Tests.{ltb-true, ltb-false, le-ltb, eq-eqb}
 use lib.Dec.{ltb, eqb}
-use Rattle.wire.specs.Table.{Outcome, refused, accepted, noneMet, rule, _>>=_}
+use Rattle.wire.specs.Table.{Outcome, refused, accepted, rule, _>>=_}
 use Rattle.wire.specs.Refusals.{ORDER, NOT-CANONICAL}
 use Rattle.wire.proofs.Tables.{none-accepted}
 use Rattle.info.specs.Entry.{wordOf}
@@ -20,18 +20,12 @@ use Rattle.rows.specs.Rows.{rowWord}
 use Rattle.info.specs.declared.MastNodeEntry.{MastNodeEntry}
 use Rattle.layout.specs.declared.forest.ForestLayout.{ForestLayout}
 use Rattle.resolved.specs.Nodes.{nodeEntry}
-use Rattle.checks.specs.Checks.{childRules, judgeChildren, childrenOutcome, In, judgeOrder, orderOutcome, judgeStrict, strictOutcome, Class, Ordered, ChildrenBelow, NeverFall, AsWritten}
+use Rattle.checks.specs.Checks.{childRules, judgeChildren, childrenOutcome, judgeOrder, orderOutcome, judgeStrict, strictOutcome, Class, Ordered, ChildrenBelow, NeverFall, AsWritten}
 use Rattle.rows.proofs.Pass.{pass-each, all-pass}
+use Rattle.checks.proofs.CheckLaws.{below-rules}
 use Rattle.checks.proofs.Ordered.{child-below, order-holds, strict-holds}
 
 -- ---- children
-
-below-rules : (nodes parent : ℕ) (ids : List ℕ) → parent < nodes → ((j : ℕ) → In j ids → j < parent) → noneMet (childRules nodes parent ids)
-unfolding childRules
-below-rules nodes parent [] h all = tt
-below-rules nodes parent (x ∷ xs) h all =
-    let low : x < parent = all x (inl refl) in
-    (lt-leb nodes x (omega arith), (lt-leb parent x low, below-rules nodes parent xs h (λ j is. all j (inr is))))
 
 pub children-exactly : (s : List ℕ) (l : ForestLayout) → (childrenOutcome s l ≡ accepted tt) ↔ ChildrenBelow s l (l .«node_count»)
 unfolding childrenOutcome

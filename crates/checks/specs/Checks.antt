@@ -44,9 +44,13 @@ pub data Reaches (s : List ℕ) (l : ForestLayout) : ℕ → ℕ → Type 0 wher
   once : {i j : ℕ} → Child s l i j → Reaches s l i j
   further : {i j k : ℕ} → Child s l i j → Reaches s l j k → Reaches s l i k
 
+-- each of a list is below a number
+abbrev pub AllBelow : List ℕ → ℕ → Type 0
+AllBelow ids top = (j : ℕ) → In j ids → j < top
+
 -- the first n nodes read, and every child is below its parent
 abbrev pub ChildrenBelow : List ℕ → ForestLayout → ℕ → Type 0
-ChildrenBelow s l n = (i : ℕ) → i < n → (e : MastNodeEntry) × ((nodeEntry s l i ≡ accepted e) × ((j : ℕ) → In j (childrenOf e) → j < i))
+ChildrenBelow s l n = (i : ℕ) → i < n → (e : MastNodeEntry) × ((nodeEntry s l i ≡ accepted e) × AllBelow (childrenOf e) i)
 
 -- ---- order
 

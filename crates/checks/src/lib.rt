@@ -15,8 +15,9 @@ ghost use mathlib.Core.Path.{_≡_};
 ghost use mathlib.Core.List.{[], _∷_};
 ghost use Rattle.wire.specs.Table.{checked};
 ghost use Rattle.info.specs.Node.{childrenOf};
+ghost use Rattle.info.specs.Shown.{shownChildren};
 ghost use Rattle.rows.specs.Rows.{rowOutcome, nodeStep};
-ghost use Rattle.checks.specs.Checks.{childRules, judgeChildren, childrenOutcome, judgeOrder, orderOutcome, judgeStrict, strictOutcome};
+ghost use Rattle.checks.specs.Checks.{AllBelow, childRules, judgeChildren, childrenOutcome, judgeOrder, orderOutcome, judgeStrict, strictOutcome};
 ghost use Rattle.checks.specs.Shown.{shownCheck, shownOrder};
 
 // Every node is in order, or the first refusal, with the node's number.
@@ -55,11 +56,33 @@ fn judge_pair(nodes: usize, parent: usize, left: u32, right: u32) -> NodeCheck
     }
 }
 
-// The children of one entry.
+// A number above every child, 0 where there is none: one to compare, whatever the kind.
+fn above_all(children: Children) -> usize
+    ensures { λ r. ⌜ AllBelow (shownChildren children) r ⌝ }
+{
+    match children {
+        Children::None => 0,
+        Children::One(child) => (child as usize) + 1,
+        Children::Two(left, right) => {
+            if left < right {
+                return (right as usize) + 1;
+            }
+            (left as usize) + 1
+        }
+    }
+}
+
+// The children of one entry. Where all are below the parent, and that is a node, nothing is refused; the rules are asked only of the others.
 fn judge_children(nodes: usize, parent: usize, entry: MastNodeEntry) -> NodeCheck
     ensures { λ r. ⌜ shownCheck r ≡ checked (childRules nodes parent (childrenOf entry)) ⌝ }
 {
-    match children_of(entry) {
+    let children = children_of(entry);
+    if parent < nodes {
+        if above_all(children) <= parent {
+            return NodeCheck::Holds;
+        }
+    }
+    match children {
         Children::None => NodeCheck::Holds,
         Children::One(child) => judge_child(nodes, parent, child),
         Children::Two(left, right) => judge_pair(nodes, parent, left, right),
