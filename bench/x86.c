@@ -7,18 +7,18 @@ typedef unsigned int u32;
 typedef unsigned long u64;
 
 #define MOST 4096
-#define ROW u64 *row, u64 row_len
 
-u64 vk_scan(const u8 *s, u64 len, const u64 *facts, u64 n, _Bool allow, u64 bounded, u64 bound, ROW);
-u64 vk_slots(const u8 *s, u64 len, const u64 *layout, u64 n, u64 bounded, u64 bound, u32 *table, u64 table_len, ROW);
-u64 vk_entry(const u8 *s, u64 len, const u64 *layout, u64 n, u64 index, ROW);
-u64 vk_digest_with_table(const u8 *s, u64 len, const u64 *layout, u64 n, u64 index, const u32 *table, u64 table_len, ROW)
-    __attribute__((weak)); // not in older archives
-u64 vk_walk(const u8 *s, u64 len, u64 at, u64 *keys, u64 keys_len, ROW);
-u64 vk_lookup(const u8 *s, u64 len, const u64 *keys, u64 keys_len, u64 n, const u64 *key, u64 key_len, ROW);
-u64 vk_write(const u64 *facts, u64 n, u8 flags, const u32 *roots, u64 roots_len, const u8 *blocks, u64 blocks_len, const u64 *words,
-             u64 words_len, const u8 *external, u64 external_len, const u8 *hashes, u64 hashes_len, const u64 *keys, u64 keys_len,
-             const u64 *lengths, u64 lengths_len, const u64 *values, u64 values_len, u8 *out, u64 out_len, ROW);
+// rows as plain numbers: there are no headers here
+u64 veka_raw_scan(const u8 *s, u64 len, const u8 *marks, u64 max_nodes, _Bool allow, const u64 *bound, u64 *layout, u64 *place);
+u64 veka_raw_slots(const u8 *s, u64 len, const u64 *layout, const u64 *bound, u32 *table, u64 table_len, u64 *left, u64 *place);
+u64 veka_raw_entry(const u8 *s, u64 len, const u64 *layout, u64 index, u64 *entry, u64 *place);
+u64 veka_raw_digest_with_table(const u8 *s, u64 len, const u64 *layout, u64 index, const u32 *table, u64 table_len, u64 *digest, u64 *place);
+u64 veka_raw_walk(const u8 *s, u64 len, u64 at, u64 *keys, u64 keys_len, u64 *walked, u64 *place);
+u64 veka_raw_lookup(const u8 *s, u64 len, const u64 *keys, u64 keys_len, u64 n, const u64 *key, u64 *looked, u64 *place);
+u64 veka_raw_write(const u8 *marks, u64 max_nodes, u8 flags, const u32 *roots, u64 roots_len, const u8 *blocks, u64 blocks_len,
+                   const u64 *words, u64 words_len, const u8 *external, u64 external_len, const u8 *hashes, u64 hashes_len, const u64 *keys,
+                   u64 keys_len, const u64 *lengths, u64 lengths_len, const u64 *values, u64 values_len, const u64 *order, u64 order_len,
+                   u8 *out, u64 out_len, u64 *size, u64 *place);
 
 // The archive's only outside name. No accepted input reaches it.
 void *memset(void *to, int x, u64 n) {
@@ -26,8 +26,9 @@ void *memset(void *to, int x, u64 n) {
     return to;
 }
 
-static const u64 facts[10] = {'M', 'A', 'S', 'T', 0, 0, 1, 1, 0xfe, 1 << 30};
-static u64 words[MOST], keys[4 * MOST], lengths[MOST], values[8 * MOST], offsets[MOST], layout[12], row[12];
+static const u8 marks[9] = {'M', 'A', 'S', 'T', 0, 0, 1, 1, 0xfe};
+static const u64 max_nodes = 1 << 30, no_bound[2];
+static u64 words[MOST], keys[4 * MOST], lengths[MOST], values[8 * MOST], offsets[MOST], order[MOST], claimed, layout[12], row[12], place;
 static u8 digests[32 * MOST], file[512 * MOST];
 static u32 table[MOST];
 static u64 file_len, seed = 88172645463325252;
@@ -64,48 +65,44 @@ static u64 externals_of(u64 n) {
     return externals;
 }
 
-// Writes the file of n nodes and a map of m entries.
+// Writes the file of n nodes and a map of m entries, with the claim of their order that was made for it.
 static void write_file(u64 n, u64 m) {
     u64 externals = externals_of(n), total = 0;
     for (u64 i = 0; i < m; i++) total += lengths[i];
-    must(vk_write(facts, 10, 0, table, 1, file, 0, words, n, digests, 32 * externals, digests, 32 * (n - externals), keys, 4 * m, lengths,
-                  m, values, total, file, sizeof file, row, 12));
-    file_len = row[0];
+    must(veka_raw_write(marks, max_nodes, 0, table, 1, file, 0, words, n, digests, 32 * externals, digests, 32 * (n - externals), keys,
+                        4 * m, lengths, m, values, total, order, claimed, file, sizeof file, &file_len, &place));
 }
 
-// Keys by their first element: rising (way 1), falling (way 2) or, by an odd factor, in disorder (way 3).
+static void scan(void) { must(veka_raw_scan(file, file_len, marks, max_nodes, 1, no_bound, layout, &place)); }
+static void slots(u64 n) { must(veka_raw_slots(file, file_len, layout, no_bound, table, n, row, &place)); }
+static void walk(u64 m) { must(veka_raw_walk(file, file_len, layout[11], offsets, m, row, &place)); }
+
+// Keys by their first element: rising (way 1), falling (way 2) or, by an odd factor, in disorder (way 3). The writer is told their order.
 static void make(u64 n, u64 m, int way) {
     for (u64 i = 0; i < n; i++) words[i] = word(i, n);
     for (u64 i = 0; i < m; i++) {
-        u64 at = way == 2 ? m - 1 - i : i;
+        u64 at = way == 2 ? m - 1 - i : way == 3 ? i * 2654435761 % m : i;
         keys[4 * i] = at << 40;
+        order[at] = i;
         lengths[i] = number() % 9;
     }
+    claimed = way > 1 ? m : 0;
     write_file(n, m);
-    must(vk_scan(file, file_len, facts, 10, 1, 0, 0, row, 12));
-    for (int k = 0; k < 12; k++) layout[k] = row[k];
-    if (way != 3) return;
-    // The writer holds keys in disorder against all earlier ones; so they are put into the file here.
-    for (u64 i = 0, at = layout[11] + 1 + (m >= 128) + (m >= 16384); i < m; at += 33 + 8 * lengths[i], i++)
-        *(volatile u64 *)(file + at) = (i * 2654435761 % m) << 40;
+    scan();
 }
 
-static void scan(void) { must(vk_scan(file, file_len, facts, 10, 1, 0, 0, row, 12)); }
-static void slots(u64 n) { must(vk_slots(file, file_len, layout, 12, 0, 0, table, n, row, 12)); }
-static void walk(u64 m) { must(vk_walk(file, file_len, layout[11], offsets, m, row, 12)); }
-
 static void entry(u64 n) {
-    for (u64 i = 0; i < n; i++) must(vk_entry(file, file_len, layout, 12, i, row, 12));
+    for (u64 i = 0; i < n; i++) must(veka_raw_entry(file, file_len, layout, i, row, &place));
 }
 
 static void digest(u64 n) {
-    for (u64 i = 0; i < n; i++) must(vk_digest_with_table(file, file_len, layout, 12, i, table, n, row, 12));
+    for (u64 i = 0; i < n; i++) must(veka_raw_digest_with_table(file, file_len, layout, i, table, n, row, &place));
 }
 
 static void lookup(u64 m) {
     for (u64 i = 0; i < m; i++) {
         u64 key[4] = {(i * 2654435761 % m) << 40};
-        must(vk_lookup(file, file_len, offsets, m, m, key, 4, row, 12));
+        must(veka_raw_lookup(file, file_len, offsets, m, m, key, row, &place));
         if (!row[0]) leave(99);
     }
 }
@@ -133,12 +130,11 @@ static u64 parse(const char *s) {
 
 // Makes the input, and runs the operation so many times.
 static void run(const char *name, u64 n, u64 times) {
-    int way = is(name, "walk-falling") ? 2 : is(name, "walk-shuffled") ? 3 : is(name, "walk-rising") || is(name, "lookup") || is(name, "write-map");
+    int way = is(name, "walk-falling") ? 2
+              : is(name, "walk-shuffled") || is(name, "write-shuffled") ? 3
+                                                                        : is(name, "walk-rising") || is(name, "lookup") || is(name, "write-map");
     make(way ? 16 : n, way ? n : 0, way);
-    if (is(name, "digest")) {
-        if (!vk_digest_with_table) leave(98);
-        slots(n);
-    }
+    if (is(name, "digest")) slots(n);
     if (is(name, "lookup")) walk(n);
     while (times--) {
         if (is(name, "plain")) plain(n);
@@ -148,7 +144,7 @@ static void run(const char *name, u64 n, u64 times) {
         else if (is(name, "digest")) digest(n);
         else if (is(name, "lookup")) lookup(n);
         else if (is(name, "write")) write_file(n, 0);
-        else if (is(name, "write-map")) write_file(16, n);
+        else if (is(name, "write-map") || is(name, "write-shuffled")) write_file(16, n);
         else walk(n);
     }
 }

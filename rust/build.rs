@@ -1,4 +1,4 @@
-//! Links libcapi.a: from the folder in VEKALUMIST_ARCHIVE, or else made by the repository's own script, which proves it first.
+//! Links libvekalumist.a: from the folder in VEKALUMIST_ARCHIVE, or else made by the repository's own script, which proves it first.
 
 use std::path::{Path, PathBuf};
 use std::process::Command;
@@ -11,14 +11,14 @@ fn main() {
         None => made(),
     };
     println!("cargo:rustc-link-search=native={}", folder.display());
-    println!("cargo:rustc-link-lib=static=capi");
+    println!("cargo:rustc-link-lib=static=vekalumist");
 }
 
 fn named(folder: &Path) -> PathBuf {
-    let archive = folder.join("libcapi.a");
+    let archive = folder.join("libvekalumist.a");
     match fs::canonicalize(folder) {
         Ok(folder) if archive.is_file() => {
-            println!("cargo:rerun-if-changed={}", folder.join("libcapi.a").display());
+            println!("cargo:rerun-if-changed={}", folder.join("libvekalumist.a").display());
             folder
         }
         _ => panic!("VEKALUMIST_ARCHIVE: there is no {}", archive.display()),

@@ -1,7 +1,7 @@
 #!/bin/sh
-# archive.sh REPO OUT: proves the crate capi of REPO, builds its archive as rt does, and leaves OUT/libcapi.a for this machine.
+# archive.sh REPO OUT: proves the crate vekalumist of REPO, builds its archive as rt does, and leaves OUT/libvekalumist.a for this machine.
 # rt builds for x86-64. On aarch64 the very same bitcode is compiled once more, with only the target changed: its x86-64 object must first
-# come out as rt's, byte for byte. rt's own archive stays there as OUT/libcapi_x86.a.
+# come out as rt's, byte for byte. rt's own archive stays there as OUT/libvekalumist_x86.a.
 set -eu
 [ $# -eq 2 ] || { echo "usage: archive.sh REPO OUT" >&2; exit 2; }
 repo=$(cd "$1" && pwd)
@@ -15,12 +15,12 @@ esac
 
 # build: the archive as rt makes it, rt's own words kept in a file
 build() {
-    (cd "$repo" && rt staticlib capi) >"$out/build.log" 2>&1 || { tail "$out/build.log" >&2; exit 1; }
+    (cd "$repo" && rt staticlib vekalumist) >"$out/build.log" 2>&1 || { tail "$out/build.log" >&2; exit 1; }
 }
 
 if [ "$machine" = x86_64 ]; then
     build
-    cp "$repo/target/staticlib/libcapi.a" "$out/libcapi.a"
+    cp "$repo/target/staticlib/libvekalumist.a" "$out/libvekalumist.a"
     exit 0
 fi
 
@@ -47,7 +47,7 @@ cat >"$kit/on/$machine/toolchain/bin/clang" <<WRAPPER
 #!/bin/sh
 PATH=/usr/bin:/bin
 for a in "\$@"; do
-    case \$a in *.bc) cp "\$a" "$work/capi.bc" ;; esac
+    case \$a in *.bc) cp "\$a" "$work/vekalumist.bc" ;; esac
 done
 exec "$clang" "\$@"
 WRAPPER
@@ -57,7 +57,7 @@ export RATTLE_HOME
 build
 unset RATTLE_HOME
 rm -rf "$kit"
-cp "$repo/target/staticlib/libcapi.a" "$out/libcapi_x86.a"
+cp "$repo/target/staticlib/libvekalumist.a" "$out/libvekalumist_x86.a"
 
 # compile TARGET MARCH IN OUT: as rt calls clang, but for the target
 compile() {
@@ -65,12 +65,12 @@ compile() {
         --no-default-config -no-canonical-prefixes -fintegrated-cc1 -Werror -c -x ir -fPIC -O3 "$3" -o "$4"
 }
 cd "$work"
-compile x86_64-unknown-linux-gnu x86-64 capi.bc x86.o
-"$tools/bin/llvm-ar" x "$out/libcapi_x86.a"
-cmp capi.o x86.o || { echo "archive.sh: the bitcode does not give rt's object" >&2; exit 1; }
+compile x86_64-unknown-linux-gnu x86-64 vekalumist.bc x86.o
+"$tools/bin/llvm-ar" x "$out/libvekalumist_x86.a"
+cmp vekalumist.o x86.o || { echo "archive.sh: the bitcode does not give rt's object" >&2; exit 1; }
 
 # the bitcode as text, and the target's two lines and its processor in it changed
-"$clang" --target=x86_64-unknown-linux-gnu --no-default-config -S -emit-llvm -O0 -Xclang -disable-llvm-passes -x ir capi.bc -o x86.ll
+"$clang" --target=x86_64-unknown-linux-gnu --no-default-config -S -emit-llvm -O0 -Xclang -disable-llvm-passes -x ir vekalumist.bc -o x86.ll
 layout=$(echo 'int x;' | "$clang" --target=aarch64-unknown-linux-gnu --no-default-config -S -emit-llvm -x c - -o - | grep '^target datalayout')
 sed -e "s|^target datalayout.*|$layout|" -e 's|^target triple.*|target triple = "aarch64-unknown-linux-gnu"|' \
     -e 's| "target-cpu"="x86-64"||' x86.ll >arm.ll
@@ -79,6 +79,6 @@ if grep -q 'byval\|sret' arm.ll; then
     echo "archive.sh: a struct crosses the boundary" >&2
     exit 1
 fi
-compile aarch64-unknown-linux-gnu armv8-a arm.ll capi_arm.o
-rm -f "$out/libcapi.a"
-"$tools/bin/llvm-ar" rcsD --format=gnu "$out/libcapi.a" capi_arm.o
+compile aarch64-unknown-linux-gnu armv8-a arm.ll vekalumist_arm.o
+rm -f "$out/libvekalumist.a"
+"$tools/bin/llvm-ar" rcsD --format=gnu "$out/libvekalumist.a" vekalumist_arm.o

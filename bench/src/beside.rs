@@ -26,7 +26,7 @@ pub fn same_layout(bytes: &[u8], ours: &Layout) -> Scanned {
         basic_block_len: ours.basic_block_len,
         node_entry_offset: ours.node_entry_offset.0,
         external_digest_offset: ours.external_digest_offset.0,
-        node_hash_offset: ours.node_hash_offset.map(|at| at.0),
+        node_hash_offset: ours.node_hash_offset().map(|at| at.0),
         advice_map_offset: ours.advice_map_offset.0,
     };
     assert_eq!(scanned.fields(), theirs, "layout");

@@ -1,7 +1,7 @@
 //! The writer. The published copies have none, so it stands beside a plain read of its parts only.
 use std::hint::black_box;
 
-use vekalumist::write;
+use vekalumist::{Kind, Refusal, write};
 
 use crate::{
     input::{self, FACTS, Keys, Order, Parts},
@@ -35,6 +35,18 @@ fn write_row(table: &mut Table, n: usize, parts: &Parts, name: &'static str) {
     let mut out = vec![0u8; want.len()];
     assert_eq!(write(&FACTS, &lent(parts), &mut out), Ok(want.len()));
     assert!(out == want, "the writer's file is another");
+    timed(table, n, parts, name, out);
+}
+
+/// Parts whose last key is there before: all keys are looked at, and nothing is written.
+fn refused_row(table: &mut Table, n: usize, parts: &Parts, name: &'static str) {
+    let mut out = vec![0u8; 8 * (parts.keys.len() + parts.lengths.len() + parts.values.len()) + 99];
+    let twice = Refusal { kind: Kind::Duplicate, place: parts.lengths.len() - 1 };
+    assert_eq!(write(&FACTS, &lent(parts), &mut out), Err(twice));
+    timed(table, n, parts, name, out);
+}
+
+fn timed(table: &mut Table, n: usize, parts: &Parts, name: &'static str, mut out: Vec<u8>) {
     table.add_alone(
         Row::new(name, n),
         [
@@ -48,9 +60,8 @@ fn write_row(table: &mut Table, n: usize, parts: &Parts, name: &'static str) {
 pub fn rows(table: &mut Table, n: usize) {
     write_row(table, n, &input::forest(n, true, Order::Classes), "write, hashes");
     write_row(table, n, &input::forest(n, false, Order::Classes), "write, hashless");
-    write_row(table, n, &input::map(n, Keys::Rising), "write, map");
-    // A key below an earlier one is held against all earlier ones; beyond this it takes too long.
-    if n <= 10_000 {
-        write_row(table, n, &input::map(n, Keys::Shuffled), "write, shuffled");
-    }
+    write_row(table, n, &input::map(n, Keys::Rising), "write, rising");
+    write_row(table, n, &input::map(n, Keys::Falling), "write, falling");
+    write_row(table, n, &input::map(n, Keys::Shuffled), "write, shuffled");
+    refused_row(table, n, &input::doubled(input::map(n, Keys::Shuffled)), "write, doubled");
 }

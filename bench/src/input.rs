@@ -147,6 +147,13 @@ pub fn map(entries: usize, order: Keys) -> Parts {
     }
 }
 
+/// The same with the first key once more at the end.
+pub fn doubled(mut parts: Parts) -> Parts {
+    parts.keys.extend_from_within(..4);
+    parts.lengths.push(0);
+    parts
+}
+
 /// The file of these parts.
 pub fn render(parts: &Parts) -> Vec<u8> {
     let externals = parts.external.len() / 32;

@@ -45,7 +45,8 @@ impl Made {
         assert!(self.table.iter().map(key_at).is_sorted(), "keys rise");
         for &key in &self.keys {
             let theirs = map.get(key).expect("own file").expect("own key");
-            let part = values(s, &self.table, self.entries, key);
+            let part =
+                values(s, &self.table, self.entries, key).expect("own file").expect("own key");
             assert!(words(part).into_iter().eq(theirs.numbers()), "values of {key:?}");
         }
     }

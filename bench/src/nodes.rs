@@ -57,7 +57,7 @@ impl Made {
 }
 
 fn digest_places(bytes: &[u8], layout: &Layout, table: &[u32]) -> Vec<usize> {
-    let hashes = layout.node_hash_offset.map_or(layout.external_digest_offset.0, |at| at.0);
+    let hashes = layout.node_hash_offset().map_or(layout.external_digest_offset.0, |at| at.0);
     let place = |(i, &slot): (usize, &u32)| {
         let external = bytes[layout.node_entry_offset.0 + 8 * i + 7] >> 4 == 8;
         let section = if external { layout.external_digest_offset.0 } else { hashes };

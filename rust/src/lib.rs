@@ -1,14 +1,14 @@
 //! A proved reader and writer for compiled program files (serialized MAST forests of the Miden VM), called from Rust.
 //!
-//! Every function here calls one function of the proved archive (`crates/capi`) and turns its numbers into types. Nothing is judged here:
-//! an answer is the proved function's, and so is a [`Refusal`], by number and place. Any bytes, any place, any hand-made [`Layout`] and
-//! any table get an answer or a refusal; nothing panics on them.
+//! Every function here calls one function of the proved archive (`crates/vekalumist`) and turns its numbers into types. Nothing is judged
+//! here: an answer is the proved function's, and so is a [`Refusal`], by number and place. Any bytes, any place, any hand-made [`Layout`]
+//! and any table get an answer or a refusal; nothing panics on them.
 //!
 //! Two units are two types: a [`ByteOffset`] counts bytes of the file, a [`Slot`] counts rows of a section. The library has no magic,
 //! version or masks of its own: the caller names them, in [`Facts`].
 //!
 //! ```
-//! use vekalumist::{entry, root, scan, AdviceMap, ByteOffset, Entry, Facts, Slot};
+//! use vekalumist::{entry, places, root, scan, AdviceMap, ByteOffset, Entry, Facts, Slot};
 //!
 //! let facts = Facts { magic: *b"MAST", version: [0, 0, 2], hashless: 2, reserved: 0xFC, max_nodes: (1 << 30) - 1 };
 //! // two internal nodes, one external, one root (node 2), one byte of block data, and no hashes
@@ -26,9 +26,9 @@
 //! assert_eq!(root(&file, &layout, 0)?, 2);
 //! assert_eq!(entry(&file, &layout, 2)?, Entry::Join { left_child_id: 0, right_child_id: 1 });
 //!
-//! let mut keys = [0; 16];
+//! let mut keys = vec![0; places(&file, layout.advice_map_offset)];
 //! let map = AdviceMap::walk(&file, layout.advice_map_offset, &mut keys)?;
-//! assert_eq!((map.len(), map.end()), (0, ByteOffset(file.len())));
+//! assert_eq!((map.len(), map.end(), map.trailing()), (0, ByteOffset(file.len()), 0));
 //! # Ok::<(), vekalumist::Refusal>(())
 //! ```
 
@@ -38,18 +38,24 @@
 #[cfg(not(target_pointer_width = "64"))]
 compile_error!("vekalumist is for 64-bit machines: its lengths and places are 64-bit numbers");
 
+mod claim;
 mod refusal;
 mod rows;
 mod sys;
 
 pub use refusal::{Kind, Refusal};
 
+use std::fmt;
+use std::hash::{Hash, Hasher};
+
 /// A place in a file, counted in bytes from its start.
-#[derive(Clone, Copy, Debug, PartialEq, Eq, PartialOrd, Ord, Hash)]
+#[derive(Clone, Copy, Debug, Default, PartialEq, Eq, PartialOrd, Ord, Hash)]
+#[repr(transparent)]
 pub struct ByteOffset(pub usize);
 
 /// A row of a section, counted in rows from the section's start; as a count, the slot past its last row.
-#[derive(Clone, Copy, Debug, PartialEq, Eq, PartialOrd, Ord, Hash)]
+#[derive(Clone, Copy, Debug, Default, PartialEq, Eq, PartialOrd, Ord, Hash)]
+#[repr(transparent)]
 pub struct Slot(pub usize);
 
 /// What a format fixes. Refused as [`Kind::Format`] by [`scan`] and [`write()`] where the hashless mask is not one bit, or shares it with
@@ -68,8 +74,61 @@ pub struct Facts {
     pub max_nodes: usize,
 }
 
-/// Where the sections of a file lie. [`scan`] makes it, and so may anyone: every reader checks again what it reads by it.
-#[derive(Clone, Copy, Debug, PartialEq, Eq, Hash)]
+/// Where the hashes of the internal nodes lie, or that there are none: a number that is 0 exactly if there are none, and the place. Two of
+/// them are equal if they mean the same.
+#[derive(Clone, Copy, Default)]
+#[repr(C)]
+pub struct HashSection {
+    has_node_hashes: u64,
+    node_hash_offset: ByteOffset,
+}
+
+impl HashSection {
+    /// There are no hashes.
+    pub const ABSENT: HashSection = HashSection { has_node_hashes: 0, node_hash_offset: ByteOffset(0) };
+
+    /// The first hash.
+    pub const fn at(first: ByteOffset) -> HashSection {
+        HashSection { has_node_hashes: 1, node_hash_offset: first }
+    }
+
+    /// The place of the first hash, if there are any.
+    #[inline]
+    pub const fn offset(self) -> Option<ByteOffset> {
+        match self.has_node_hashes {
+            0 => None,
+            _ => Some(self.node_hash_offset),
+        }
+    }
+}
+
+impl PartialEq for HashSection {
+    fn eq(&self, other: &HashSection) -> bool {
+        self.offset() == other.offset()
+    }
+}
+
+impl Eq for HashSection {}
+
+impl Hash for HashSection {
+    fn hash<H: Hasher>(&self, state: &mut H) {
+        self.offset().hash(state);
+    }
+}
+
+impl fmt::Debug for HashSection {
+    fn fmt(&self, f: &mut fmt::Formatter<'_>) -> fmt::Result {
+        match self.offset() {
+            Some(at) => f.debug_tuple("At").field(&at).finish(),
+            None => f.write_str("Absent"),
+        }
+    }
+}
+
+/// Where the sections of a file lie. [`scan`] makes it, and so may anyone: every reader checks again what it reads by it. It is the archive's
+/// own row of twelve numbers, and handed over as it lies.
+#[derive(Clone, Copy, Debug, Default, PartialEq, Eq, Hash)]
+#[repr(C)]
 pub struct Layout {
     /// The number of nodes, internal and external.
     pub node_count: usize,
@@ -89,14 +148,23 @@ pub struct Layout {
     pub node_entry_offset: ByteOffset,
     /// The first external digest; each has 32 bytes.
     pub external_digest_offset: ByteOffset,
-    /// The first hash of an internal node; each has 32 bytes. None in a hashless file.
-    pub node_hash_offset: Option<ByteOffset>,
+    /// The hashes of the internal nodes; each has 32 bytes. Absent in a hashless file.
+    pub node_hashes: HashSection,
     /// The advice map, for [`walk_map`].
     pub advice_map_offset: ByteOffset,
 }
 
-/// A node entry, as its 64-bit word says it.
+impl Layout {
+    /// The first hash of an internal node; none in a hashless file.
+    #[inline]
+    pub const fn node_hash_offset(&self) -> Option<ByteOffset> {
+        self.node_hashes.offset()
+    }
+}
+
+/// A node entry, as its 64-bit word says it. It lies as its kind, 0 to 8, and up to two numbers.
 #[derive(Clone, Copy, Debug, PartialEq, Eq, Hash)]
+#[repr(u32)]
 pub enum Entry {
     /// Both children in turn. Each id is below 2^30.
     Join {
@@ -158,6 +226,19 @@ pub struct Walked {
     pub entries: usize,
     /// The place after the map. What follows is not looked at.
     pub end: ByteOffset,
+    /// The number of bytes that follow the map: 0 exactly if nothing does.
+    pub trailing: usize,
+}
+
+/// An entry of the map, at a place of a key table.
+#[derive(Clone, Copy, Debug, PartialEq, Eq, Hash)]
+pub struct MapEntry {
+    /// Its key.
+    pub key: [u64; 4],
+    /// The number of its values.
+    pub len: usize,
+    /// The first value; each has 8 bytes. They are not judged.
+    pub values: ByteOffset,
 }
 
 /// Whether a key is in the map.
@@ -194,12 +275,17 @@ pub struct Parts<'a> {
     pub external: &'a [u8],
     /// 32 bytes for each internal node, in node order; none in a hashless file. They are not judged.
     pub hashes: &'a [u8],
-    /// Four numbers for each key of the map. In rising order they are checked fastest.
+    /// Four numbers for each key of the map. In rising order they are checked fastest; else their numbers are sorted first.
     pub keys: &'a [u64],
     /// For each key the number of its values.
     pub lengths: &'a [u64],
     /// The values, one key's after the other's. They are not judged.
     pub values: &'a [u64],
+}
+
+/// The version of the archive that is linked: major * 10000 + minor * 100 + patch.
+pub fn version() -> u64 {
+    sys::version()
 }
 
 /// Reads the count (vint64) at a place.
@@ -237,8 +323,15 @@ pub fn decode_entry(word: u64) -> Result<Entry, Refusal> {
 /// Refused: `Payload`, place: 0, where an id of Join or Split is 2^30 or more.
 #[inline]
 pub fn encode_entry(entry: Entry) -> Result<u64, Refusal> {
-    let (kind, a, b) = rows::of_entry(entry);
-    sys::encode_entry(kind, a, b)
+    sys::encode_entry(&rows::of_entry(entry))
+}
+
+/// The flags byte of a file, byte 4. No other byte is looked at.
+///
+/// Refused: `Short`, place: 4.
+#[inline]
+pub fn flags(s: &[u8]) -> Result<u8, Refusal> {
+    sys::flags(s)
 }
 
 /// Where a file's sections lie. The map is not looked at: see [`walk_map`].
@@ -262,7 +355,7 @@ pub fn encode_entry(entry: Entry) -> Result<u64, Refusal> {
 /// # Ok::<(), vekalumist::Refusal>(())
 /// ```
 pub fn scan(s: &[u8], facts: &Facts, allow_hashless: bool, bound: Option<usize>) -> Result<Layout, Refusal> {
-    sys::scan(s, &rows::of_facts(facts), allow_hashless, rows::of_bound(bound))
+    sys::scan(s, facts, allow_hashless, &rows::of_bound(bound))
 }
 
 /// The node id of a root.
@@ -270,7 +363,7 @@ pub fn scan(s: &[u8], facts: &Facts, allow_hashless: bool, bound: Option<usize>)
 /// Refused: `Index`, `Overflow`, `Short`, `RootId` (not below the node count); place: the index asked for.
 #[inline]
 pub fn root(s: &[u8], layout: &Layout, index: usize) -> Result<u32, Refusal> {
-    sys::root(s, &rows::of_layout(layout), index)
+    sys::root(s, layout, index)
 }
 
 /// The entry of a node.
@@ -278,36 +371,37 @@ pub fn root(s: &[u8], layout: &Layout, index: usize) -> Result<u32, Refusal> {
 /// Refused: `Index`, `Overflow`, `Short`, `Tag`, `Payload`; place: the index asked for.
 #[inline]
 pub fn entry(s: &[u8], layout: &Layout, index: usize) -> Result<Entry, Refusal> {
-    sys::entry(s, &rows::of_layout(layout), index)
+    sys::entry(s, layout, index)
 }
 
 /// Checks that every child is a node and comes before its parent, so that no node reaches itself.
 ///
 /// Refused: [`entry`]'s refusals, `ChildRange`, `Forward`; place: the node's index.
 pub fn children(s: &[u8], layout: &Layout) -> Result<(), Refusal> {
-    sys::children(s, &rows::of_layout(layout))
+    sys::children(s, layout)
 }
 
 /// Checks that external nodes come first, then blocks, then all others.
 ///
 /// Refused: [`entry`]'s refusals, `Order`; place: the node's index.
 pub fn order(s: &[u8], layout: &Layout) -> Result<(), Refusal> {
-    sys::order(s, &rows::of_layout(layout))
+    sys::order(s, layout)
 }
 
 /// Checks that every entry's bytes are its canonical form.
 ///
 /// Refused: [`entry`]'s refusals, `NotCanonical`; place: the node's index.
 pub fn strict(s: &[u8], layout: &Layout) -> Result<(), Refusal> {
-    sys::strict(s, &rows::of_layout(layout))
+    sys::strict(s, layout)
 }
 
 /// The digest of a node. Its slot is counted from node 0 on; for many digests see [`digest_with_table`].
 ///
 /// Refused: `Index`, `NoHash`, `Overflow`, `Short`, `Element`, place: the index asked for; [`entry`]'s refusals of nodes 0 to the
 /// index, place: that node's index.
+#[inline]
 pub fn digest(s: &[u8], layout: &Layout, index: usize) -> Result<[u64; 4], Refusal> {
-    sys::digest(s, &rows::of_layout(layout), index)
+    sys::digest(s, layout, index)
 }
 
 /// The digest of a node whose slot is taken from a table that [`slots`] filled for the same file and layout.
@@ -329,8 +423,9 @@ pub fn digest(s: &[u8], layout: &Layout, index: usize) -> Result<[u64; 4], Refus
 /// assert_eq!(digest(&file, &layout, 0)?, [7, 0, 0, 0]);
 /// # Ok::<(), vekalumist::Refusal>(())
 /// ```
+#[inline]
 pub fn digest_with_table(s: &[u8], layout: &Layout, index: usize, table: &[u32]) -> Result<[u64; 4], Refusal> {
-    sys::digest_with_table(s, &rows::of_layout(layout), index, table)
+    sys::digest_with_table(s, layout, index, table)
 }
 
 /// Fills a table with each node's slot: its row among the external digests if it is external, else among the hashes. Gives what is
@@ -355,7 +450,21 @@ pub fn digest_with_table(s: &[u8], layout: &Layout, index: usize, table: &[u32])
 /// # Ok::<(), vekalumist::Refusal>(())
 /// ```
 pub fn slots(s: &[u8], layout: &Layout, bound: Option<usize>, table: &mut [u32]) -> Result<Option<usize>, Refusal> {
-    sys::slots(s, &rows::of_layout(layout), rows::of_bound(bound), table)
+    sys::slots(s, layout, &rows::of_bound(bound), table)
+}
+
+/// How many places of a key table are enough for the map at a place: a [`walk_map`] with so many never says `Room`. As many as the map says
+/// it has entries, or one more than have room in the file, at 33 bytes each.
+///
+/// ```
+/// use vekalumist::{places, ByteOffset};
+///
+/// assert_eq!(places(&[1], ByteOffset(0)), 0); // a map without entries
+/// assert_eq!(places(&[0xFF; 100], ByteOffset(0)), 4); // it says 127 entries, and 99 bytes follow
+/// ```
+#[inline]
+pub fn places(s: &[u8], at: ByteOffset) -> usize {
+    sys::places(s, at.0) as usize
 }
 
 /// Walks the map at a place, and fills the first places of the lent table with the byte offsets of its keys, keys rising; the other
@@ -394,13 +503,34 @@ pub fn lookup(s: &[u8], keys: &[u64], n: usize, key: [u64; 4]) -> Result<Lookup,
     sys::lookup(s, keys, n, &key)
 }
 
-/// The values of a key as a part of the file, 8 bytes each; empty where [`lookup`] of the same input refuses or says absent.
+/// The values of a key as a part of the file, 8 bytes each; none where the key is absent.
+///
+/// Refused: what [`lookup`] of the same input refuses.
 #[inline]
-pub fn values<'a>(s: &'a [u8], keys: &[u64], n: usize, key: [u64; 4]) -> &'a [u8] {
-    rows::part(s, sys::values(s, keys, n, &key))
+pub fn values<'a>(s: &'a [u8], keys: &[u64], n: usize, key: [u64; 4]) -> Result<Option<&'a [u8]>, Refusal> {
+    sys::values(s, keys, n, &key)
+}
+
+/// The key at a place of a key table.
+///
+/// Refused: `Index` (the table has no such place), place: the index; `Short`, `Element`, place: the key's byte offset.
+#[inline]
+pub fn key(s: &[u8], keys: &[u64], index: usize) -> Result<[u64; 4], Refusal> {
+    sys::key(s, keys, index)
+}
+
+/// The entry of the map at a place of a key table. Its values are not judged.
+///
+/// Refused: what [`key()`] refuses; `Short`, `Overflow`, place: the byte offset of the length; `Short`, place: that of the values.
+#[inline]
+pub fn map_entry(s: &[u8], keys: &[u64], index: usize) -> Result<MapEntry, Refusal> {
+    sys::map_entry(s, keys, index)
 }
 
 /// Writes the file of some parts at the start of the output, and gives its length in bytes. Bytes past it stay as they were.
+///
+/// Where the keys do not rise strictly, their numbers are sorted first (a number of memory for each), so that n keys in any order take
+/// n log n comparisons.
 ///
 /// Refused: `Format`, place: 0; `Flags`, place: byte 4; `TooMany`, place: 0; `Tag`, `Payload`, place: the node's index; `Parts`, place: which part
 /// ([`Kind::Parts`]); `Element`, `Duplicate`, place: the key's number from 0; `Overflow`, place: 0; `Room`, place: the bytes that the
@@ -419,7 +549,8 @@ pub fn values<'a>(s: &'a [u8], keys: &[u64], n: usize, key: [u64; 4]) -> &'a [u8
 /// # Ok::<(), vekalumist::Refusal>(())
 /// ```
 pub fn write(facts: &Facts, parts: &Parts<'_>, out: &mut [u8]) -> Result<usize, Refusal> {
-    sys::write(&rows::of_facts(facts), parts, out).map(|len| len as usize)
+    let order = claim::claim(parts.keys, parts.lengths);
+    sys::write(facts, parts, &order, out).map(|size| size as usize)
 }
 
 /// A walked map: the file beside the table of its keys, so that a lookup cannot be given another file's.
@@ -438,9 +569,10 @@ pub fn write(facts: &Facts, parts: &Parts<'_>, out: &mut [u8]) -> Result<usize, 
 /// let mut keys = [0; 8]; // one place for each entry, at least
 /// let advice = AdviceMap::walk(&map, ByteOffset(0), &mut keys)?;
 /// assert_eq!(advice.len(), 2);
-/// assert_eq!(advice.values([5, 0, 0, 0]), 50_u64.to_le_bytes());
+/// assert_eq!(advice.values([5, 0, 0, 0])?, Some(&50_u64.to_le_bytes()[..]));
 /// assert_eq!(advice.lookup([6, 0, 0, 0])?, Lookup::Absent { compared: 2 });
-/// assert!(advice.values([6, 0, 0, 0]).is_empty());
+/// assert_eq!(advice.values([6, 0, 0, 0])?, None);
+/// assert_eq!((advice.key(0)?, advice.key(1)?), ([5, 0, 0, 0], [8, 0, 0, 0])); // keys rise
 /// # Ok::<(), vekalumist::Refusal>(())
 /// ```
 #[derive(Clone, Copy, Debug)]
@@ -472,6 +604,28 @@ impl<'a> AdviceMap<'a> {
         self.walked.end
     }
 
+    /// The number of bytes that follow the map: 0 exactly if nothing does.
+    pub fn trailing(&self) -> usize {
+        self.walked.trailing
+    }
+
+    /// The key at a place, keys rising. Refused: `Index`, place: the index, where there are not so many entries.
+    #[inline]
+    pub fn key(&self, index: usize) -> Result<[u64; 4], Refusal> {
+        key(self.file, self.table(), index)
+    }
+
+    /// The entry at a place, keys rising. Refused: `Index`, place: the index, where there are not so many entries.
+    #[inline]
+    pub fn entry(&self, index: usize) -> Result<MapEntry, Refusal> {
+        map_entry(self.file, self.table(), index)
+    }
+
+    /// The places that the walk filled.
+    fn table(&self) -> &'a [u64] {
+        &self.keys[..self.walked.entries]
+    }
+
     /// Where a key's values lie, or absent exactly if no entry has the key. Refused: `Element`, place: the byte offset of a value
     /// that is no element.
     #[inline]
@@ -479,9 +633,9 @@ impl<'a> AdviceMap<'a> {
         lookup(self.file, self.keys, self.walked.entries, key)
     }
 
-    /// A key's values as a part of the file, 8 bytes each; empty where [`AdviceMap::lookup`] refuses or says absent.
+    /// A key's values as a part of the file, 8 bytes each; none exactly if no entry has the key. Refused as [`AdviceMap::lookup`].
     #[inline]
-    pub fn values(&self, key: [u64; 4]) -> &'a [u8] {
+    pub fn values(&self, key: [u64; 4]) -> Result<Option<&'a [u8]>, Refusal> {
         values(self.file, self.keys, self.walked.entries, key)
     }
 }

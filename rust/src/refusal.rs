@@ -28,7 +28,7 @@ pub enum Kind {
     Payload,
     /// The external nodes are not as many as the header says.
     Externals,
-    /// There is no such root or node.
+    /// There is no such root, node or place of a table.
     Index,
     /// A root is not below the node count.
     RootId,
@@ -118,7 +118,7 @@ impl Kind {
     }
 
     pub(crate) fn of_number(number: u64) -> Option<Kind> {
-        KINDS.into_iter().find(|kind| u64::from(kind.number()) == number)
+        KINDS.get((number as usize).wrapping_sub(1)).copied()
     }
 
     fn words(self) -> &'static str {
@@ -134,7 +134,7 @@ impl Kind {
             Kind::Tag => "no such node kind",
             Kind::Payload => "a number that does not fit its node kind",
             Kind::Externals => "not as many external nodes as the header says",
-            Kind::Index => "no such root or node",
+            Kind::Index => "no such root, node or place of a table",
             Kind::RootId => "the root is not below the node count",
             Kind::NoHash => "the file has no hashes",
             Kind::ChildRange => "a child is not below the node count",

@@ -1,82 +1,101 @@
-//! The archive's functions, as C declares them, and the only unsafe calls of this crate.
+//! The archive's functions, as C declares them (include/vekalumist_raw.h), and the only unsafe calls of this crate.
 #![allow(unsafe_code)]
 
-use crate::{rows, Count, Entry, Layout, Lookup, Parts, Refusal, Walked};
+use std::mem::{self, offset_of, size_of, MaybeUninit};
+use std::{array, ptr};
 
-// A slice crosses as a pointer, which is never null, and its number of elements. The last slice is the row of the answer: the return is 0
-// and the row the answer, or a refusal's number and its place in row[0].
+use crate::{rows, ByteOffset, Count, Entry, Facts, HashSection, Layout, Lookup, MapEntry, Parts, Refusal, Walked};
+
+// A slice crosses as a pointer, which is never null, and its number of elements; a row of numbers and a single number as a pointer. The
+// return is 0 and the answer is stored, or it is a refusal's number and its place is.
 extern "C" {
-    fn vk_read_count(s: *const u8, s_len: usize, at: usize, row: *mut u64, row_len: usize) -> u64;
-    fn vk_shortest_len(v: u64, row: *mut u64, row_len: usize) -> u64;
-    fn vk_write_count(out: *mut u8, out_len: usize, at: usize, v: u64, row: *mut u64, row_len: usize) -> u64;
-    fn vk_decode_entry(word: u64, row: *mut u64, row_len: usize) -> u64;
-    fn vk_encode_entry(kind: usize, a: u32, b: u32, row: *mut u64, row_len: usize) -> u64;
-    fn vk_scan(
+    fn veka_version() -> u64;
+    fn veka_raw_read_count(s: *const u8, s_len: usize, at: usize, count: *mut [u64; 3], place: *mut u64) -> u64;
+    fn veka_shortest_len(v: u64) -> u64;
+    fn veka_raw_write_count(out: *mut u8, out_len: usize, at: usize, v: u64, next: *mut u64, place: *mut u64) -> u64;
+    fn veka_decode_entry(word: u64, entry: *mut [u64; 3], place: *mut u64) -> u64;
+    fn veka_encode_entry(entry: *const [u64; 3], word: *mut u64, place: *mut u64) -> u64;
+    fn veka_raw_flags(s: *const u8, s_len: usize, flags: *mut u8, place: *mut u64) -> u64;
+    fn veka_raw_scan(
         s: *const u8,
         s_len: usize,
-        facts: *const u64,
-        facts_len: usize,
+        marks: *const [u8; 9],
+        max_nodes: usize,
         allow: bool,
-        bounded: u64,
-        bound: usize,
-        row: *mut u64,
-        row_len: usize,
+        bound: *const [u64; 2],
+        layout: *mut Layout,
+        place: *mut u64,
     ) -> u64;
-    fn vk_root(s: *const u8, s_len: usize, layout: *const u64, layout_len: usize, index: usize, row: *mut u64, row_len: usize) -> u64;
-    fn vk_entry(s: *const u8, s_len: usize, layout: *const u64, layout_len: usize, index: usize, row: *mut u64, row_len: usize) -> u64;
-    fn vk_children(s: *const u8, s_len: usize, layout: *const u64, layout_len: usize, row: *mut u64, row_len: usize) -> u64;
-    fn vk_order(s: *const u8, s_len: usize, layout: *const u64, layout_len: usize, row: *mut u64, row_len: usize) -> u64;
-    fn vk_strict(s: *const u8, s_len: usize, layout: *const u64, layout_len: usize, row: *mut u64, row_len: usize) -> u64;
-    fn vk_digest(s: *const u8, s_len: usize, layout: *const u64, layout_len: usize, index: usize, row: *mut u64, row_len: usize) -> u64;
-    fn vk_digest_with_table(
+    fn veka_raw_root(s: *const u8, s_len: usize, layout: *const Layout, index: usize, root: *mut u32, place: *mut u64) -> u64;
+    fn veka_raw_entry(s: *const u8, s_len: usize, layout: *const Layout, index: usize, entry: *mut [u64; 3], place: *mut u64) -> u64;
+    fn veka_raw_children(s: *const u8, s_len: usize, layout: *const Layout, place: *mut u64) -> u64;
+    fn veka_raw_order(s: *const u8, s_len: usize, layout: *const Layout, place: *mut u64) -> u64;
+    fn veka_raw_strict(s: *const u8, s_len: usize, layout: *const Layout, place: *mut u64) -> u64;
+    fn veka_raw_digest(s: *const u8, s_len: usize, layout: *const Layout, index: usize, digest: *mut [u64; 4], place: *mut u64) -> u64;
+    fn veka_raw_digest_with_table(
         s: *const u8,
         s_len: usize,
-        layout: *const u64,
-        layout_len: usize,
+        layout: *const Layout,
         index: usize,
         table: *const u32,
         table_len: usize,
-        row: *mut u64,
-        row_len: usize,
+        digest: *mut [u64; 4],
+        place: *mut u64,
     ) -> u64;
-    fn vk_slots(
+    fn veka_raw_slots(
         s: *const u8,
         s_len: usize,
-        layout: *const u64,
-        layout_len: usize,
-        bounded: u64,
-        bound: usize,
+        layout: *const Layout,
+        bound: *const [u64; 2],
         table: *mut u32,
         table_len: usize,
-        row: *mut u64,
-        row_len: usize,
+        left: *mut [u64; 2],
+        place: *mut u64,
     ) -> u64;
-    fn vk_walk(s: *const u8, s_len: usize, at: usize, keys: *mut u64, keys_len: usize, row: *mut u64, row_len: usize) -> u64;
-    fn vk_lookup(
+    fn veka_raw_places(s: *const u8, s_len: usize, at: usize) -> u64;
+    fn veka_raw_walk(s: *const u8, s_len: usize, at: usize, keys: *mut u64, keys_len: usize, walked: *mut [u64; 3], place: *mut u64)
+        -> u64;
+    fn veka_raw_key(
+        s: *const u8,
+        s_len: usize,
+        keys: *const u64,
+        keys_len: usize,
+        index: usize,
+        key: *mut [u64; 4],
+        place: *mut u64,
+    ) -> u64;
+    fn veka_raw_map_entry(
+        s: *const u8,
+        s_len: usize,
+        keys: *const u64,
+        keys_len: usize,
+        index: usize,
+        entry: *mut [u64; 6],
+        place: *mut u64,
+    ) -> u64;
+    fn veka_raw_lookup(
         s: *const u8,
         s_len: usize,
         keys: *const u64,
         keys_len: usize,
         n: usize,
-        key: *const u64,
-        key_len: usize,
-        row: *mut u64,
-        row_len: usize,
+        key: *const [u64; 4],
+        looked: *mut [u64; 4],
+        place: *mut u64,
     ) -> u64;
-    fn vk_values(
+    fn veka_raw_values(
         s: *const u8,
         s_len: usize,
         keys: *const u64,
         keys_len: usize,
         n: usize,
-        key: *const u64,
-        key_len: usize,
-        row: *mut u64,
-        row_len: usize,
+        key: *const [u64; 4],
+        part: *mut [u64; 3],
+        place: *mut u64,
     ) -> u64;
-    fn vk_write(
-        facts: *const u64,
-        facts_len: usize,
+    fn veka_raw_write(
+        marks: *const [u8; 9],
+        max_nodes: usize,
         flags: u8,
         roots: *const u32,
         roots_len: usize,
@@ -94,127 +113,200 @@ extern "C" {
         lengths_len: usize,
         values: *const u64,
         values_len: usize,
+        order: *const u64,
+        order_len: usize,
         out: *mut u8,
         out_len: usize,
-        row: *mut u64,
-        row_len: usize,
+        size: *mut u64,
+        place: *mut u64,
     ) -> u64;
 }
 
-/// Lends a row of N places, which is as many as the answer has, or one where it has none: a refusal's place needs one. The row is read where
-/// it lies, in the places that were stored: handed on, it would be copied in other pieces, and a copy waits for the stores (10 ns and more).
-#[inline(always)]
-fn told<const N: usize, T>(call: impl FnOnce(*mut u64, usize) -> u64, says: impl FnOnce(&[u64; N]) -> T) -> Result<T, Refusal> {
-    let mut row = [0; N];
-    match call(row.as_mut_ptr(), N) {
-        0 => Ok(says(&row)),
-        number => Err(rows::refusal(number, row.first().copied().unwrap_or(0))),
+// A layout crosses as it lies: the row's twelve numbers in their order, of which any bits are one.
+const _: () = assert!(size_of::<Layout>() == 12 * 8 && size_of::<HashSection>() == 2 * 8 && size_of::<ByteOffset>() == 8);
+const _: () = assert!(offset_of!(Layout, node_hashes) == 9 * 8 && offset_of!(Layout, advice_map_offset) == 11 * 8);
+
+/// What an answer may be stored into: any bits are a value.
+trait Row: Copy {
+    /// The value that was stored.
+    ///
+    /// # Safety
+    /// All of it was.
+    unsafe fn taken(row: &MaybeUninit<Self>) -> Self {
+        row.assume_init_read()
     }
 }
 
-// In each call below pointer and length are of one slice that is borrowed for the call, mutably where the function writes; the archive reads
-// and writes inside the lengths only, and keeps no pointer. What answers for one count, word, row or key is inlined into its caller,
-// here and in lib.rs: the answer is then made where it is used. A digest is not: its four numbers would be copied in other pieces (6 ns).
+impl Row for u8 {}
+impl Row for u32 {}
+impl Row for u64 {}
+impl Row for Layout {}
+
+/// The numbers of a row were stored one by one, and are read one by one: a compiler would read two at once, and such a read waits until both
+/// stores are done (10 ns and more).
+impl<const N: usize> Row for [u64; N] {
+    #[inline(always)]
+    unsafe fn taken(row: &MaybeUninit<Self>) -> Self {
+        let first = row.as_ptr().cast::<u64>();
+        array::from_fn(|i| ptr::read_volatile(first.add(i)))
+    }
+}
+
+/// Lends memory for the answer and for a refusal's place, and reads the one that was stored.
+#[inline(always)]
+fn told<R: Row, T>(call: impl FnOnce(*mut R, *mut u64) -> u64, says: impl FnOnce(R) -> T) -> Result<T, Refusal> {
+    let mut row = MaybeUninit::<R>::uninit();
+    held(|place| call(row.as_mut_ptr(), place))?;
+    // SAFETY: where nothing is refused, the archive stored the whole row.
+    Ok(says(unsafe { R::taken(&row) }))
+}
+
+/// The same of a call that answers nothing but that it holds.
+#[inline(always)]
+fn held(call: impl FnOnce(*mut u64) -> u64) -> Result<(), Refusal> {
+    let mut place = MaybeUninit::<u64>::uninit();
+    match call(place.as_mut_ptr()) {
+        0 => Ok(()),
+        // SAFETY: with a refusal's number the archive stored its place.
+        number => Err(rows::refusal(number, unsafe { place.assume_init() })),
+    }
+}
+
+// In each call below pointer and length are of one slice that is borrowed for the call, mutably where the function writes, and every other
+// pointer is of one value that is borrowed likewise; the archive reads and writes inside the lengths only, and keeps no pointer. What
+// answers for one count, word, row or key is inlined into its caller, here and in lib.rs: the answer is then made where it is used.
+
+/// The entry of a row. It is made without a branch on its kind: the archive has just taken one, and entries in any order let a second one guess
+/// wrong as often (4 ns).
+#[inline]
+fn entry_of([kind, first, second]: [u64; 3]) -> Entry {
+    if kind > 8 || (first | second) > u64::from(u32::MAX) {
+        rows::broken("the kind of an entry, with its numbers,", kind);
+    }
+    // SAFETY: of an enum that is repr(u32) the tag lies first, 0 to 8 in the order of the variants, and a variant's own numbers follow it.
+    unsafe { mem::transmute::<[u32; 3], Entry>([kind as u32, first as u32, second as u32]) }
+}
+
+pub(crate) fn version() -> u64 {
+    unsafe { veka_version() }
+}
 
 #[inline]
 pub(crate) fn read_count(s: &[u8], at: usize) -> Result<Count, Refusal> {
-    told(|row, n| unsafe { vk_read_count(s.as_ptr(), s.len(), at, row, n) }, rows::count)
+    told(|row, place| unsafe { veka_raw_read_count(s.as_ptr(), s.len(), at, row, place) }, rows::count)
 }
 
 #[inline]
 pub(crate) fn shortest_len(v: u64) -> u64 {
-    rows::unrefused(told(|row, n| unsafe { vk_shortest_len(v, row, n) }, |&[len]| len))
+    unsafe { veka_shortest_len(v) }
 }
 
 #[inline]
 pub(crate) fn write_count(out: &mut [u8], at: usize, v: u64) -> Result<u64, Refusal> {
-    told(|row, n| unsafe { vk_write_count(out.as_mut_ptr(), out.len(), at, v, row, n) }, |&[next]| next)
+    told(|row, place| unsafe { veka_raw_write_count(out.as_mut_ptr(), out.len(), at, v, row, place) }, |next| next)
 }
 
 #[inline]
 pub(crate) fn decode_entry(word: u64) -> Result<Entry, Refusal> {
-    told(|row, n| unsafe { vk_decode_entry(word, row, n) }, rows::entry)
+    told(|row, place| unsafe { veka_decode_entry(word, row, place) }, entry_of)
 }
 
 #[inline]
-pub(crate) fn encode_entry(kind: usize, a: u32, b: u32) -> Result<u64, Refusal> {
-    told(|row, n| unsafe { vk_encode_entry(kind, a, b, row, n) }, |&[word]| word)
-}
-
-pub(crate) fn scan(s: &[u8], facts: &[u64; 10], allow: bool, (bounded, bound): (u64, usize)) -> Result<Layout, Refusal> {
-    told(|row, n| unsafe { vk_scan(s.as_ptr(), s.len(), facts.as_ptr(), facts.len(), allow, bounded, bound, row, n) }, rows::layout)
+pub(crate) fn encode_entry(entry: &[u64; 3]) -> Result<u64, Refusal> {
+    told(|row, place| unsafe { veka_encode_entry(entry, row, place) }, |word| word)
 }
 
 #[inline]
-pub(crate) fn root(s: &[u8], layout: &[u64; 12], index: usize) -> Result<u32, Refusal> {
-    told(|row, n| unsafe { vk_root(s.as_ptr(), s.len(), layout.as_ptr(), layout.len(), index, row, n) }, |&[id]| rows::narrow(id))
+pub(crate) fn flags(s: &[u8]) -> Result<u8, Refusal> {
+    told(|row, place| unsafe { veka_raw_flags(s.as_ptr(), s.len(), row, place) }, |flags| flags)
+}
+
+pub(crate) fn scan(s: &[u8], facts: &Facts, allow: bool, bound: &[u64; 2]) -> Result<Layout, Refusal> {
+    let marks = rows::marks(facts);
+    told(|row, place| unsafe { veka_raw_scan(s.as_ptr(), s.len(), &marks, facts.max_nodes, allow, bound, row, place) }, |layout| layout)
 }
 
 #[inline]
-pub(crate) fn entry(s: &[u8], layout: &[u64; 12], index: usize) -> Result<Entry, Refusal> {
-    told(|row, n| unsafe { vk_entry(s.as_ptr(), s.len(), layout.as_ptr(), layout.len(), index, row, n) }, rows::entry)
+pub(crate) fn root(s: &[u8], layout: &Layout, index: usize) -> Result<u32, Refusal> {
+    told(|row, place| unsafe { veka_raw_root(s.as_ptr(), s.len(), layout, index, row, place) }, |id| id)
 }
 
-pub(crate) fn children(s: &[u8], layout: &[u64; 12]) -> Result<(), Refusal> {
-    told(|row, n| unsafe { vk_children(s.as_ptr(), s.len(), layout.as_ptr(), layout.len(), row, n) }, rows::nothing)
+#[inline]
+pub(crate) fn entry(s: &[u8], layout: &Layout, index: usize) -> Result<Entry, Refusal> {
+    told(|row, place| unsafe { veka_raw_entry(s.as_ptr(), s.len(), layout, index, row, place) }, entry_of)
 }
 
-pub(crate) fn order(s: &[u8], layout: &[u64; 12]) -> Result<(), Refusal> {
-    told(|row, n| unsafe { vk_order(s.as_ptr(), s.len(), layout.as_ptr(), layout.len(), row, n) }, rows::nothing)
+pub(crate) fn children(s: &[u8], layout: &Layout) -> Result<(), Refusal> {
+    held(|place| unsafe { veka_raw_children(s.as_ptr(), s.len(), layout, place) })
 }
 
-pub(crate) fn strict(s: &[u8], layout: &[u64; 12]) -> Result<(), Refusal> {
-    told(|row, n| unsafe { vk_strict(s.as_ptr(), s.len(), layout.as_ptr(), layout.len(), row, n) }, rows::nothing)
+pub(crate) fn order(s: &[u8], layout: &Layout) -> Result<(), Refusal> {
+    held(|place| unsafe { veka_raw_order(s.as_ptr(), s.len(), layout, place) })
 }
 
-pub(crate) fn digest(s: &[u8], layout: &[u64; 12], index: usize) -> Result<[u64; 4], Refusal> {
-    told(|row, n| unsafe { vk_digest(s.as_ptr(), s.len(), layout.as_ptr(), layout.len(), index, row, n) }, |&word| word)
+pub(crate) fn strict(s: &[u8], layout: &Layout) -> Result<(), Refusal> {
+    held(|place| unsafe { veka_raw_strict(s.as_ptr(), s.len(), layout, place) })
 }
 
-pub(crate) fn digest_with_table(s: &[u8], layout: &[u64; 12], index: usize, table: &[u32]) -> Result<[u64; 4], Refusal> {
+#[inline]
+pub(crate) fn digest(s: &[u8], layout: &Layout, index: usize) -> Result<[u64; 4], Refusal> {
+    told(|row, place| unsafe { veka_raw_digest(s.as_ptr(), s.len(), layout, index, row, place) }, |word| word)
+}
+
+#[inline]
+pub(crate) fn digest_with_table(s: &[u8], layout: &Layout, index: usize, table: &[u32]) -> Result<[u64; 4], Refusal> {
     told(
-        |row, n| unsafe {
-            vk_digest_with_table(s.as_ptr(), s.len(), layout.as_ptr(), layout.len(), index, table.as_ptr(), table.len(), row, n)
-        },
-        |&word| word,
+        |row, place| unsafe { veka_raw_digest_with_table(s.as_ptr(), s.len(), layout, index, table.as_ptr(), table.len(), row, place) },
+        |word| word,
     )
 }
 
-pub(crate) fn slots(s: &[u8], layout: &[u64; 12], (bounded, bound): (u64, usize), table: &mut [u32]) -> Result<Option<usize>, Refusal> {
+pub(crate) fn slots(s: &[u8], layout: &Layout, bound: &[u64; 2], table: &mut [u32]) -> Result<Option<usize>, Refusal> {
     told(
-        |row, n| unsafe {
-            vk_slots(s.as_ptr(), s.len(), layout.as_ptr(), layout.len(), bounded, bound, table.as_mut_ptr(), table.len(), row, n)
-        },
+        |row, place| unsafe { veka_raw_slots(s.as_ptr(), s.len(), layout, bound, table.as_mut_ptr(), table.len(), row, place) },
         rows::bound,
     )
 }
 
+#[inline]
+pub(crate) fn places(s: &[u8], at: usize) -> u64 {
+    unsafe { veka_raw_places(s.as_ptr(), s.len(), at) }
+}
+
 pub(crate) fn walk(s: &[u8], at: usize, keys: &mut [u64]) -> Result<Walked, Refusal> {
-    told(|row, n| unsafe { vk_walk(s.as_ptr(), s.len(), at, keys.as_mut_ptr(), keys.len(), row, n) }, rows::walked)
+    told(|row, place| unsafe { veka_raw_walk(s.as_ptr(), s.len(), at, keys.as_mut_ptr(), keys.len(), row, place) }, rows::walked)
+}
+
+#[inline]
+pub(crate) fn key(s: &[u8], keys: &[u64], index: usize) -> Result<[u64; 4], Refusal> {
+    told(|row, place| unsafe { veka_raw_key(s.as_ptr(), s.len(), keys.as_ptr(), keys.len(), index, row, place) }, |word| word)
+}
+
+#[inline]
+pub(crate) fn map_entry(s: &[u8], keys: &[u64], index: usize) -> Result<MapEntry, Refusal> {
+    told(|row, place| unsafe { veka_raw_map_entry(s.as_ptr(), s.len(), keys.as_ptr(), keys.len(), index, row, place) }, rows::map_entry)
 }
 
 #[inline]
 pub(crate) fn lookup(s: &[u8], keys: &[u64], n: usize, key: &[u64; 4]) -> Result<Lookup, Refusal> {
-    told(
-        |row, len| unsafe { vk_lookup(s.as_ptr(), s.len(), keys.as_ptr(), keys.len(), n, key.as_ptr(), key.len(), row, len) },
-        rows::looked,
-    )
+    told(|row, place| unsafe { veka_raw_lookup(s.as_ptr(), s.len(), keys.as_ptr(), keys.len(), n, key, row, place) }, rows::looked)
 }
 
 #[inline]
-pub(crate) fn values(s: &[u8], keys: &[u64], n: usize, key: &[u64; 4]) -> [u64; 2] {
-    rows::unrefused(told(
-        |row, len| unsafe { vk_values(s.as_ptr(), s.len(), keys.as_ptr(), keys.len(), n, key.as_ptr(), key.len(), row, len) },
-        |&part| part,
-    ))
+pub(crate) fn values<'a>(s: &'a [u8], keys: &[u64], n: usize, key: &[u64; 4]) -> Result<Option<&'a [u8]>, Refusal> {
+    told(
+        |row, place| unsafe { veka_raw_values(s.as_ptr(), s.len(), keys.as_ptr(), keys.len(), n, key, row, place) },
+        |row| rows::part(s, row),
+    )
 }
 
-pub(crate) fn write(facts: &[u64; 10], parts: &Parts<'_>, out: &mut [u8]) -> Result<u64, Refusal> {
+pub(crate) fn write(facts: &Facts, parts: &Parts<'_>, order: &[u64], out: &mut [u8]) -> Result<u64, Refusal> {
+    let marks = rows::marks(facts);
     told(
-        |row, n| unsafe {
-            vk_write(
-                facts.as_ptr(),
-                facts.len(),
+        |row, place| unsafe {
+            veka_raw_write(
+                &marks,
+                facts.max_nodes,
                 parts.flags,
                 parts.roots.as_ptr(),
                 parts.roots.len(),
@@ -232,13 +324,15 @@ pub(crate) fn write(facts: &[u64; 10], parts: &Parts<'_>, out: &mut [u8]) -> Res
                 parts.lengths.len(),
                 parts.values.as_ptr(),
                 parts.values.len(),
+                order.as_ptr(),
+                order.len(),
                 out.as_mut_ptr(),
                 out.len(),
                 row,
-                n,
+                place,
             )
         },
-        |&[len]| len,
+        |size| size,
     )
 }
 
@@ -246,16 +340,96 @@ pub(crate) fn write(facts: &[u64; 10], parts: &Parts<'_>, out: &mut [u8]) -> Res
 mod tests {
     use super::*;
 
-    // No function above can lend a row that is too short; this is what would come of one.
+    const WORD: u64 = 0x3000000000000000; // a Block
+
+    /// A record of one internal node at byte 0, whose hash is the next 32 bytes.
+    fn one_node(hashes: HashSection) -> Layout {
+        Layout { node_count: 1, internal_node_count: crate::Slot(1), node_hashes: hashes, ..Layout::default() }
+    }
+
+    // No function above hands over a row of its own; this is what is stored and what is not.
     #[test]
-    fn a_short_row_is_refused_and_nothing_touched() {
-        let (mut row, mut keys, mut out) = ([77; 1], [77; 2], [77; 4]);
-        let map = [1]; // no entries
+    fn an_answer_or_a_place_is_stored_and_not_both() {
+        let (mut row, mut place) = ([77; 3], 77);
         unsafe {
-            assert_eq!(vk_read_count(map.as_ptr(), 1, 0, row.as_mut_ptr(), 1), 20);
-            assert_eq!(vk_walk(map.as_ptr(), 1, 9, keys.as_mut_ptr(), 2, row.as_mut_ptr(), 1), 20);
-            assert_eq!(vk_write_count(out.as_mut_ptr(), 4, 0, 0, row.as_mut_ptr(), 0), 20);
+            assert_eq!(veka_decode_entry(WORD | 5, &mut row, &mut place), 0);
+            assert_eq!((row, place), ([3, 5, 0], 77));
+            assert_eq!(veka_decode_entry(9 << 60, &mut row, &mut place), 9);
+            assert_eq!((row, place), ([3, 5, 0], 0));
+            place = 77;
+            assert_eq!(veka_raw_read_count([1].as_ptr(), 1, 5, &mut row, &mut place), 1);
+            assert_eq!((row, place), ([3, 5, 0], 5));
         }
-        assert_eq!((row, keys, out), ([77; 1], [77; 2], [77; 4]));
+    }
+
+    #[test]
+    fn an_entry_is_its_row() {
+        for row in [[0, 1, 2], [1, 3, 4], [2, 5, 0], [3, 6, 0], [4, 7, 0], [5, 8, 0], [6, 0, 0], [7, 0, 0], [8, 0, 0]] {
+            assert_eq!(rows::of_entry(entry_of(row)), row);
+        }
+        let most = u32::MAX;
+        assert_eq!(entry_of([1, most.into(), 7]), Entry::Split { if_branch_id: most, else_branch_id: 7 });
+        assert_eq!(entry_of([5, most.into(), 7]), Entry::SysCall { callee_id: most });
+    }
+
+    #[test]
+    #[should_panic(expected = "the linked libvekalumist.a is broken")]
+    fn another_kind_is_a_broken_archive() {
+        entry_of([9, 0, 0]);
+    }
+
+    #[test]
+    #[should_panic(expected = "the linked libvekalumist.a is broken")]
+    fn a_wide_number_is_a_broken_archive() {
+        entry_of([2, 0, 1 << 32]);
+    }
+
+    // The kinds and numbers that an Entry cannot hold.
+    #[test]
+    fn a_wide_number_or_another_kind_is_refused() {
+        let (mut word, mut place) = (77, 77);
+        let mut of = |entry: [u64; 3]| {
+            let number = unsafe { veka_encode_entry(&entry, &mut word, &mut place) };
+            (number, if number == 0 { word } else { place })
+        };
+        assert_eq!(of([9, 0, 0]), (12, 9));
+        assert_eq!(of([u64::MAX, 0, 0]), (12, u64::MAX));
+        assert_eq!(of([2, 1 << 32, 0]), (10, 0));
+        assert_eq!(of([2, (1 << 32) - 1, u64::MAX]), (0, 2 << 60 | 0xFFFFFFFF)); // Loop has no second number
+        assert_eq!(of([0, 1 << 30, 0]), (10, 0));
+        assert_eq!(of([0, 1 << 63, 0]), (10, 0));
+        assert_eq!(of([8, u64::MAX, u64::MAX]), (0, 8 << 60));
+    }
+
+    #[test]
+    fn any_flag_but_0_is_hashes() {
+        let mut file = WORD.to_le_bytes().to_vec();
+        file.extend([7; 32]);
+        for flag in [1, 2, 1 << 63, u64::MAX] {
+            let layout = one_node(HashSection { has_node_hashes: flag, node_hash_offset: ByteOffset(8) });
+            assert_eq!(layout.node_hash_offset(), Some(ByteOffset(8)));
+            assert_eq!(layout, one_node(HashSection::at(ByteOffset(8))));
+            assert_eq!(digest(&file, &layout, 0), Ok([0x0707070707070707; 4]));
+        }
+        let none = one_node(HashSection { has_node_hashes: 0, node_hash_offset: ByteOffset(8) });
+        assert_eq!((none.node_hash_offset(), none), (None, one_node(HashSection::ABSENT)));
+        assert!(digest(&file, &none, 0).is_err());
+    }
+
+    #[test]
+    fn a_claim_changes_no_answer() {
+        let facts = Facts { magic: *b"MAST", version: [0, 0, 2], hashless: 2, reserved: 0xFC, max_nodes: 100 };
+        let keys = [5, 0, 0, 0, 3, 0, 0, 0, 4, 0, 0, 0];
+        let twice = [5, 0, 0, 0, 3, 0, 0, 0, 5, 0, 0, 0];
+        let claims: [&[u64]; 7] = [&[], &[1, 2, 0], &[0, 1, 2], &[1, 1, 0], &[1, 2], &[1, 2, 3], &[u64::MAX; 3]];
+        let parts = Parts { keys: &keys, lengths: &[0; 3], ..Parts::default() };
+        let mut want = [0; 120];
+        let size = write(&facts, &parts, &[], &mut want).unwrap();
+        for claim in claims {
+            let mut out = [0; 120];
+            assert_eq!((write(&facts, &parts, claim, &mut out), out), (Ok(size), want), "{claim:?}");
+            let refused = write(&facts, &Parts { keys: &twice, ..parts }, claim, &mut out);
+            assert_eq!((refused, out), (Err(rows::refusal(19, 2)), want), "{claim:?}");
+        }
     }
 }

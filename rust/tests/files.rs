@@ -17,7 +17,7 @@ fn p10_has_the_known_layout() {
         basic_block_len: 1,
         node_entry_offset: ByteOffset(17),
         external_digest_offset: ByteOffset(41),
-        node_hash_offset: None,
+        node_hashes: HashSection::ABSENT,
         advice_map_offset: ByteOffset(73),
     };
     assert_eq!(scan(&file, &FACTS, true, None), Ok(layout));
@@ -44,14 +44,15 @@ fn p10_has_the_known_nodes() {
     assert_eq!(slots(&file, &layout, None, &mut table), Ok(None));
     assert_eq!(table, [0, 0, 1]);
     let map = walk_map(&file, layout.advice_map_offset, &mut []);
-    assert_eq!(map, Ok(Walked { entries: 0, end: ByteOffset(74) }));
+    assert_eq!(map, Ok(Walked { entries: 0, end: ByteOffset(74), trailing: 0 }));
 }
 
 #[test]
 fn p10_with_hashes_has_them_before_the_map() {
     let file = sample("p10-hashes");
     let layout = scan(&file, &FACTS, false, None).unwrap();
-    assert_eq!(layout.node_hash_offset, Some(ByteOffset(73)));
+    assert_eq!(layout.node_hash_offset(), Some(ByteOffset(73)));
+    assert_eq!(layout.node_hashes, HashSection::at(ByteOffset(73)));
     assert_eq!(layout.advice_map_offset, ByteOffset(137));
     assert_eq!(digest(&file, &layout, 2), Ok([0; 4]));
 }
@@ -75,7 +76,7 @@ fn the_sample_map_is_walked_and_looked_up() {
     let layout = scanned(&file);
     let mut keys = [9; 4];
     let walked = walk_map(&file, layout.advice_map_offset, &mut keys);
-    assert_eq!(walked, Ok(Walked { entries: 2, end: ByteOffset(file.len()) }));
+    assert_eq!(walked, Ok(Walked { entries: 2, end: ByteOffset(file.len()), trailing: 0 }));
     assert_eq!(keys, [195, 138, 9, 9]); // the second key is the lower one
     let look = |key| lookup(&file, &keys, 2, key);
     assert_eq!(look([1, 0, 0, 0]), Ok(Lookup::Found { values: ByteOffset(171), len: 3, compared: 1 }));
@@ -92,6 +93,8 @@ fn a_map_that_is_held_with_its_table() {
     assert_eq!((map.len(), map.is_empty(), map.end()), (2, false, ByteOffset(228)));
     assert_eq!(map.lookup([1, 0, 0, 0]), Ok(Lookup::Found { values: ByteOffset(171), len: 3, compared: 1 }));
     assert_eq!(map.lookup([2, 0, 0, 0]), Ok(Lookup::Absent { compared: 1 }));
+    assert_eq!((map.key(0), map.key(1), map.key(2)), (Ok([0, 2, 0, 0]), Ok([1, 0, 0, 0]), no(Kind::Index, 2)));
+    assert_eq!(map.entry(1), Ok(MapEntry { key: [1, 0, 0, 0], len: 3, values: ByteOffset(171) }));
     let empty = AdviceMap::walk(&[1], ByteOffset(0), &mut []).unwrap();
     assert!(empty.is_empty());
     let short = AdviceMap::walk(&file, ByteOffset(usize::MAX), &mut []).unwrap_err();
@@ -110,21 +113,19 @@ fn written_again(file: &[u8]) -> Vec<u8> {
     let word = |i| encode_entry(entry(file, &layout, i).unwrap()).unwrap();
     let words: Vec<u64> = (0..layout.node_count).map(word).collect();
     let part = |from: ByteOffset, to: ByteOffset| &file[from.0..to.0];
-    let hashes_at = layout.node_hash_offset.unwrap_or(layout.advice_map_offset);
-    let mut table = vec![0; file.len()];
-    let walked = walk_map(file, layout.advice_map_offset, &mut table).unwrap();
-    table.truncate(walked.entries);
-    table.sort(); // by place: the order in the file
+    let hashes_at = layout.node_hash_offset().unwrap_or(layout.advice_map_offset);
+    let mut table = vec![0; places(file, layout.advice_map_offset)];
+    let map = AdviceMap::walk(file, layout.advice_map_offset, &mut table).unwrap();
+    let mut entries: Vec<MapEntry> = (0..map.len()).map(|i| map.entry(i).unwrap()).collect();
+    entries.sort_by_key(|entry| entry.values); // the order in the file
     let (mut keys, mut lengths, mut values) = (vec![], vec![], vec![]);
-    for at in table {
-        let at = at as usize;
-        let count = read_count(file, ByteOffset(at + 32)).unwrap();
-        keys.extend(numbers(&file[at..at + 32]));
-        lengths.push(count.value);
-        values.extend(numbers(&file[count.next.0..][..8 * count.value as usize]));
+    for entry in entries {
+        keys.extend(entry.key);
+        lengths.push(entry.len as u64);
+        values.extend(numbers(&file[entry.values.0..][..8 * entry.len]));
     }
     made(&Parts {
-        flags: file[4],
+        flags: flags(file).unwrap(),
         roots: &roots,
         blocks: &file[layout.basic_block_offset.0..][..layout.basic_block_len],
         words: &words,
@@ -207,4 +208,26 @@ fn entries_of_every_kind() {
     assert_eq!(decode_entry(0x2000000100000000), no(Kind::Payload, 0));
     assert_eq!(decode_entry(0x9000000000000000), no(Kind::Tag, 0));
     assert_eq!(encode_entry(Entry::Split { if_branch_id: 0, else_branch_id: 1 << 30 }), no(Kind::Payload, 0));
+}
+
+#[test]
+fn the_flags_byte_of_a_file() {
+    assert_eq!((flags(&sample("p10")), flags(&sample("p10-hashes"))), (Ok(2), Ok(0)));
+    assert_eq!((flags(&[7; 4]), flags(&[7; 5])), (no(Kind::Short, 4), Ok(7))); // nothing else is looked at
+}
+
+#[test]
+fn the_linked_version_is_this_crate_s() {
+    let [major, minor, patch] = [env!("CARGO_PKG_VERSION_MAJOR"), env!("CARGO_PKG_VERSION_MINOR"), env!("CARGO_PKG_VERSION_PATCH")]
+        .map(|part| part.parse::<u64>().unwrap());
+    assert_eq!(version(), 10000 * major + 100 * minor + patch);
+}
+
+#[test]
+fn layouts_are_equal_if_they_mean_the_same() {
+    let (with, without) = (HashSection::at(ByteOffset(0)), HashSection::ABSENT);
+    assert_ne!(with, without);
+    assert_eq!((with.offset(), without.offset()), (Some(ByteOffset(0)), None));
+    assert_eq!((format!("{with:?}"), format!("{without:?}")), ("At(ByteOffset(0))".to_string(), "Absent".to_string()));
+    assert_eq!(Layout::default().node_hash_offset(), None);
 }

@@ -73,3 +73,28 @@ fn the_output_is_written_or_as_it_was() {
     assert_eq!(write(&FACTS, &Parts { keys: &[0; 8], lengths: &[0; 2], ..parts }, &mut out), no(Kind::Duplicate, 1));
     assert_eq!(out, [0xEE; 80]);
 }
+
+/// A file of a map whose keys have these first elements.
+fn of_keys(firsts: &[u64]) -> Result<Vec<u8>, Refusal> {
+    let keys: Vec<u64> = firsts.iter().flat_map(|&first| [first, 0, 0, 0]).collect();
+    let mut out = vec![0; 40 * firsts.len() + 40];
+    let size = write(&FACTS, &Parts { keys: &keys, lengths: &vec![0; firsts.len()], ..Parts::default() }, &mut out)?;
+    out.truncate(size);
+    Ok(out)
+}
+
+#[test]
+fn many_keys_in_any_order_are_written_as_they_come() {
+    let n = 60_000; // by search alone 1.8 * 10^9 comparisons
+    let orders: [&dyn Fn(u64) -> u64; 3] = [&|i| i, &|i| n - i, &|i| i * 2654435761 % n];
+    for order in orders {
+        let mut firsts: Vec<u64> = (0..n).map(order).collect();
+        let file = of_keys(&firsts).unwrap();
+        let first_at = |i: usize| u64::from_le_bytes(file[file.len() - 33 * (n as usize - i)..][..8].try_into().unwrap());
+        assert!(firsts.iter().enumerate().all(|(i, first)| first_at(i) == *first));
+        firsts.push(firsts[7]);
+        assert_eq!(of_keys(&firsts), no(Kind::Duplicate, n as usize));
+        firsts.insert(3, firsts[2]);
+        assert_eq!(of_keys(&firsts), no(Kind::Duplicate, 3)); // the first in turn, not the first in order
+    }
+}

@@ -30,6 +30,7 @@ fn every_number_is_met_at_its_place() {
         (1, 0, scan_of(&[])),
         (1, 4, scan_of(b"MAST")),
         (1, 73, walk_map(&p10[..73], ByteOffset(73), &mut []).err()),
+        (1, 4, flags(&p10[..4]).err()),
         (2, 0, scan_of(b"XXXX")),
         (3, 5, scan_of(b"MAST\xFF\x00\x00\x03")), // before the flags
         (4, 4, scan_of(b"MAST\xFF\x00\x00\x02")),
@@ -111,9 +112,9 @@ fn any_layout_gets_an_answer() {
     let digests_at = |at| Layout { external_digest_offset: ByteOffset(at), ..layout };
     assert_eq!(digest(&file, &digests_at(most - 32), 0), no(Kind::Short, 0));
     assert_eq!(digest(&file, &digests_at(most - 31), 0), no(Kind::Overflow, 0));
-    let hashes_at = |at| Layout { node_hash_offset: at, ..layout };
-    assert_eq!(digest(&file, &hashes_at(Some(ByteOffset(0))), 1), Ok([0x020000005453414D, 0x0300000002030305, 0xAB, 0x80]));
-    assert_eq!(digest(&file, &hashes_at(None), 1), no(Kind::NoHash, 1));
+    let hashes_at = |node_hashes| Layout { node_hashes, ..layout };
+    assert_eq!(digest(&file, &hashes_at(HashSection::at(ByteOffset(0))), 1), Ok([0x020000005453414D, 0x0300000002030305, 0xAB, 0x80]));
+    assert_eq!(digest(&file, &hashes_at(HashSection::ABSENT), 1), no(Kind::NoHash, 1));
 
     // a record's own counts are held against, not the file's
     assert_eq!(root(&file, &Layout { node_count: 2, ..layout }, 0), no(Kind::RootId, 0));
@@ -147,8 +148,11 @@ fn empty_slices_are_input_too() {
     assert_eq!(write_count(&mut [], ByteOffset(0), 0), no(Kind::Room, 0));
     assert_eq!(scan(&[], &FACTS, true, None), no(Kind::Short, 0));
     assert_eq!(walk_map(&[], ByteOffset(0), &mut []), no(Kind::Short, 0));
-    assert_eq!(walk_map(&[1], ByteOffset(0), &mut []), Ok(Walked { entries: 0, end: ByteOffset(1) }));
+    assert_eq!(walk_map(&[1], ByteOffset(0), &mut []), Ok(Walked { entries: 0, end: ByteOffset(1), trailing: 0 }));
     assert_eq!(lookup(&[], &[], 0, [0; 4]), Ok(Lookup::Absent { compared: 0 }));
+    assert_eq!(values(&[], &[], 0, [0; 4]), Ok(None));
+    assert_eq!((flags(&[]), places(&[], ByteOffset(0))), (no(Kind::Short, 4), 0));
+    assert_eq!((key(&[], &[], 0), map_entry(&[], &[], 0)), (no(Kind::Index, 0), no(Kind::Index, 0)));
     assert_eq!(write(&FACTS, &Parts::default(), &mut []), no(Kind::Room, 13));
     assert_eq!(made(&Parts::default()), sample("empty"));
     let nothing = Layout { node_count: 0, ..FAR };
@@ -163,7 +167,7 @@ fn refusals_read_as_text() {
     assert_eq!(text(Kind::Tag, 17), "refusal 9 (TAG) at 17: no such node kind");
     assert_eq!(text(Kind::Magic, 0), "refusal 2 (MAGIC) at byte 0: the magic is another");
     assert_eq!(text(Kind::Forward, 4), "refusal 16 (FORWARD) at node 4: a child does not come before its parent");
-    assert_eq!(text(Kind::Index, 9), "refusal 12 (INDEX) at index 9: no such root or node");
+    assert_eq!(text(Kind::Index, 9), "refusal 12 (INDEX) at index 9: no such root, node or place of a table");
     assert_eq!(text(Kind::Parts, 3), "refusal 23 (PARTS) at part 3: two parts do not fit each other");
     let error: Box<dyn std::error::Error> = Box::new(Refusal { kind: Kind::NotCanonical, place: 1 });
     assert!(error.to_string().starts_with("refusal 22 (NOT-CANONICAL) at node 1: "));

@@ -174,12 +174,12 @@ def others():
     if said != f"{cases} agree in all":
         faults.append(f"crates/recorded: stdin has {cases} cases, and stdout ends: {said}")
     decisions = re.findall(r"^- \*\*\w+-\d+\*\*", (ROOT / "docs/DECISIONS.md").read_text(), re.M)
-    c_functions = re.findall(r'pub extern "C" fn vk_', (ROOT / "crates/capi/src/calls.rt").read_text())
+    c_functions = [name for path in sorted(ROOT.glob("crates/vekalumist/src/*.rt")) for name in re.findall(r'pub extern "C" fn veka_', path.read_text())]
     refusals = re.findall(r"Refusal::\w+ => \d+", (ROOT / "crates/wire/src/refusal.rt").read_text())
     return (
         head("what", "how many")
         + row("refusals (`crates/wire/src/refusal.rt`)", len(refusals))
-        + row("exported C functions (`crates/capi/src/calls.rt`)", len(c_functions))
+        + row("exported C functions (`crates/vekalumist/src`)", len(c_functions))
         + row("recorded cases (`crates/recorded/stdin`)", cases)
         + row("rows of docs/SPEC-MAP.md: sentences", map_rows("Sentences"))
         + row("rows of docs/SPEC-MAP.md: definitions", map_rows("Definitions"))

@@ -1,7 +1,8 @@
 #!/usr/bin/env python3
 """Every public function has no `requires`, and its lines on the page of its crate (crates/promises/proofs/OfCRATE.antt): that it asks nothing and
-allows one answer (NAME-answers; or, where no plain result is promised, NAME-asks with NAME-one or NAME-leaves), and for each slice that it is lent to
-write to that what it leaves is one (NAME-leaves.., NAME-row). Main names every page.
+allows one answer (NAME-answers; or, where no plain result is promised, NAME-asks with NAME-one or NAME-leaves), and for all memory that it is lent to
+write to that what it leaves is one (NAME-leaves..). NAME-crosses says it of an exported function's number, of its answer where it has one, and
+of its place. Main names every page.
 Fails with what is missing.
 """
 import re
@@ -29,8 +30,9 @@ def main():
                 if re.search(r'^\s*requires\b', m.group(3), re.M):
                     wrong.append(f'{crate.name}: {m.group(1)}: has a requires')
                 lent = m.group(2).count('&mut ')
-                left = sum(d == f'{name}-row' or d.startswith(f'{name}-leaves') for d in declared)
-                if f'{name}-answers' not in declared and not (f'{name}-asks' in declared and (left or f'{name}-one' in declared)):
+                crosses = f'{name}-crosses' in declared
+                left = sum(d.startswith(f'{name}-leaves') for d in declared) + crosses * min(lent, 2)
+                if f'{name}-answers' not in declared and not crosses and not (f'{name}-asks' in declared and (left or f'{name}-one' in declared)):
                     wrong.append(f'{page.name}: no {name}-answers')
                 if left != lent:
                     wrong.append(f'{page.name}: {name} is lent {lent} to write to, and {left} are said to be one')

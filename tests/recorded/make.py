@@ -13,32 +13,37 @@ an empty group is no byte at all. Every line ends in a newline, and no line is b
     NUMBERS;NUMBERS;NUMBERS    a case: the call and what is given; lent memory before; the answer
 
 The first number of a case is the call, its place in CALLS below from 1 on. The answer is the number
-that the function returns; the 12 places of the row `answer` afterwards, of which place i held 901 + i
-before; and all of the lent memory afterwards. What is given, and what is lent after the bar:
+that the function returns; the place of a refusal afterwards, which held 900 before; the places of the
+answer afterwards, as many as the function has (ANSWERS below), of which place i held 901 + i before, and
+the flags byte 91; and all of the lent memory afterwards. The calls 2, 20 and 23 record the number that
+they return, and nothing else. What is given, and what is lent after the bar:
 
-    1 vk_read_count        at                          10 vk_strict             layout
-    2 vk_shortest_len      v                           11 vk_digest             layout index
-    3 vk_decode_entry      word                        12 vk_digest_with_table  layout index | slots
-    4 vk_encode_entry      kind first second           13 vk_slots              layout bound | slots
-    5 vk_scan              facts allow bound           14 vk_write_count        at v | output
-    6 vk_root              layout index                15 vk_walk               at | keys
-    7 vk_entry             layout index                16 vk_lookup             key n | keys
-    8 vk_children          layout                      17 vk_values             key n | keys
-    9 vk_order             layout                      18 vk_write              facts parts | output
+    1 veka_read_count        at                      13 veka_slots          layout bound | slots
+    2 veka_shortest_len      v                       14 veka_write_count    at v | output
+    3 veka_decode_entry      word                    15 veka_walk           at | keys
+    4 veka_encode_entry      kind first second       16 veka_lookup         key n | keys
+    5 veka_scan              facts allow bound       17 veka_values         key n | keys
+    6 veka_root              layout index            18 veka_write          facts parts | output
+    7 veka_entry             layout index            19 veka_flags
+    8 veka_children          layout                  20 veka_places         at
+    9 veka_order             layout                  21 veka_key            index | keys
+   10 veka_strict            layout                  22 veka_map_entry      index | keys
+   11 veka_digest            layout index            23 veka_version
+   12 veka_digest_with_table layout index | slots
 
-facts are ten numbers, a layout twelve, a key four, in the header's order; a bound is two: 0 and any
-number for none, else any other number and the bytes. Slots are numbers below 2^32, an output is bytes.
-The parts to write are the flags, seven ends and the numbers themselves: flags b0 b1 w k l v r .. The
-file holds the parts that are bytes: blocks up to b0, external digests from there to b1, hashes to its
-end. The others lie in what is given, whose first fact is number 0: words from 18 to w, keys to k,
-lengths to l, values to v, roots to r, where the list ends. The program has room for a file of 98,304
-bytes, groups of 4,096, 4,096 and 8,192 numbers, and 3,000,000 bytes of text.
+facts are ten numbers, of which nine are bytes, a layout twelve, a key four, in the header's order; a bound
+is two: 0 and any number for none, else any other number and the bytes. Slots are numbers below 2^32, an
+output is bytes. The parts to write are the flags, eight ends and the numbers themselves: flags b0 b1 w k l v
+r o .. The file holds the parts that are bytes: blocks up to b0, external digests from there to b1, hashes to
+its end. The others lie in what is given, whose first fact is number 0: words from 19 to w, keys to k, lengths
+to l, values to v, roots to r, the claimed order of keys to o, where the list ends. The program has room for a
+file of 98,304 bytes, groups of 4,096, 4,096 and 8,192 numbers, and 3,000,000 bytes of text.
 
 stdout has a line for each section, `A agree: TITLE`, and at its end `N agree in all`.
 
 What the layers below do is asked through the calls that show it: one number, entry or word of a file
-through vk_root, vk_entry and vk_digest over a layout made for it, many entries through vk_slots, the
-order of two words through vk_walk and vk_lookup. No call shows refusal_number, is_short, u64_at,
+through veka_root, veka_entry and veka_digest over a layout made for it, many entries through veka_slots, the
+order of two words through veka_walk and veka_lookup. No call shows refusal_number, is_short, u64_at,
 read_u64, row_place and digest_place by themselves: these are held by their contracts alone.
 
 Each answer has up to three sources, which have to agree: the published Rust, model.py, and the plain
@@ -58,9 +63,13 @@ FAR = (2**63, TOP - 7, TOP)  # places that no file reaches
  ROOT_ID) = range(1, 14)
 NO_HASH, CHILD_RANGE, FORWARD, ORDER, ELEMENT, DUPLICATE, ROOM, FORMAT, NOT_CANONICAL, PARTS = range(14, 24)
 KINDS = "Join Split Loop Block Call SysCall Dyn Dyncall External".split()
-CALLS = ("vk_read_count vk_shortest_len vk_decode_entry vk_encode_entry vk_scan vk_root vk_entry vk_children vk_order "
-         "vk_strict vk_digest vk_digest_with_table vk_slots vk_write_count vk_walk vk_lookup vk_values vk_write").split()
-MARKED = list(range(901, 913))  # the row `answer` before a call
+CALLS = ("veka_read_count veka_shortest_len veka_decode_entry veka_encode_entry veka_scan veka_root veka_entry veka_children "
+         "veka_order veka_strict veka_digest veka_digest_with_table veka_slots veka_write_count veka_walk veka_lookup veka_values "
+         "veka_write veka_flags veka_places veka_key veka_map_entry veka_version").split()
+# how many places the answer of each call has; None: it returns a number and cannot refuse
+ANSWERS = dict(zip(CALLS, (3, None, 3, 1, 12, 1, 3, 0, 0, 0, 4, 4, 2, 1, 3, 4, 3, 1, 1, None, 4, 6, None)))
+PLACE = 900  # the place before a call
+LINKED = 200  # what veka_version says
 rng = random.Random()
 
 # ---- document 01: bytes and numbers to an answer, which is 0 and values, or a refusal's number and its place
@@ -130,7 +139,9 @@ def encode_entry(kind, first, second):
     if kind < 2:
         wide = first >= 2**30 or second >= 2**30
         return [PAYLOAD, 0] if wide else [0, kind * 2**60 + first * 2**30 + second]
-    return [0, kind * 2**60 + (first if kind < 6 else 0)]
+    if kind < 6:
+        return [PAYLOAD, 0] if first >= 2**32 else [0, kind * 2**60 + first]
+    return [0, kind * 2**60]
 
 
 def over(n):
@@ -140,11 +151,6 @@ def over(n):
 
 def ones(n):
     return bin(n).count("1")
-
-
-def wide_fact(facts):
-    """The place of the first number among the facts that has to be a byte and is none, or None."""
-    return next((i for i in range(9) if facts[i] > 255), None)
 
 
 def bad_format(facts):
@@ -224,9 +230,6 @@ def looked_at(s, args):
 
 
 def scan_layout(s, *args):
-    wide = wide_fact(args)
-    if wide is not None:
-        return [INDEX, wide]
     *_, (line, number, value, _) = looked_at(s, args)
     return [number, value] if line else [number, *value]
 
@@ -394,7 +397,7 @@ def walk_map(s, at, table):
     if number:
         return [number, *rest], [0] * len(table)
     keys, end = rest
-    return [0, len(keys), end], keys + table[len(keys):]
+    return [0, len(keys), end, len(s) - end], keys + table[len(keys):]
 
 
 def lookup(s, args, table):
@@ -423,7 +426,32 @@ def lookup(s, args, table):
 
 def values(s, args, table):
     number, *found = lookup(s, args, table)
-    return [0, found[1], 8 * found[2]] if number == 0 and found[0] else [0, 0, 0]
+    return [number, *found] if number else [0, found[0], found[1], 8 * found[2]]
+
+
+def flags(s):
+    return [SHORT, 4] if is_short(s, 4, 1) else [0, s[4]]
+
+
+def places(s, at):
+    """No more than the count says, and than the entries that begin in the file, the least of which has 33 bytes."""
+    number, *count = read_count(s, at)
+    return 0 if number else min(count[0], (len(s) - count[2]) // 33 + 1)
+
+
+def key_at(s, i, table):
+    if len(table) <= i:
+        return [INDEX, i]
+    number, at = check_word(s, table[i])
+    return [number, at] if number else [0, *word_at(s, table[i])]
+
+
+def map_entry(s, i, table):
+    number, *key = key_at(s, i, table)
+    if number:
+        return [number, *key]
+    number, *values = map_values(s, table[i] + 32)
+    return [number, *values] if number else [0, *key, values[1], values[0]]
 
 
 # ---- the writer: parts are flags, roots, block bytes, entry words, bytes of external digests and of hashes,
@@ -479,7 +507,6 @@ def writer_rules(facts, parts, room):
     flags, roots, block, words, external, hashes, keys, lengths, held = parts
     mask, reserved, maximum = facts[7:]
     externals = external_count(words)
-    yield "INDEX", INDEX, wide_fact(facts), wide_fact(facts) is not None
     yield "FORMAT", FORMAT, 0, bad_format(facts)
     yield "FLAGS", FLAGS, 4, flags & reserved != 0
     yield "TOO-MANY", TOO_MANY, 0, len(words) > maximum
@@ -537,20 +564,20 @@ def file_parts(s, facts):
     return parts, at, [(size, shortest_len(value)) for _, value, size, _ in counts]
 
 
-def listed(facts, parts):
-    """Facts and parts as they are given to vk_write, and the file that holds the byte parts."""
+def listed(facts, parts, order=()):
+    """Facts and parts as they are given to veka_write, and the file that holds the byte parts."""
     flags, roots, block, words, external, hashes, *of_map = parts
     given = [*facts, flags, len(block), len(block) + len(external)]
-    groups = [words, *of_map, roots]
-    ends = [18 + sum(map(len, groups[:i + 1])) for i in range(5)]
+    groups = [words, *of_map, roots, list(order)]
+    ends = [19 + sum(map(len, groups[:i + 1])) for i in range(6)]
     return given + ends + sum(groups, []), block + external + hashes
 
 
 def unlisted(s, given):
-    """Facts and parts from what is given to vk_write."""
-    flags, b0, b1, *ends = given[10:18]
-    assert b0 <= b1 <= len(s) and [18, *ends] == sorted([18, *ends]) and ends[4] == len(given)
-    words, keys, lengths, held, roots = (given[a:b] for a, b in zip([18, *ends], ends))
+    """Facts and parts from what is given to veka_write: what it claims of the order of keys changes no answer."""
+    flags, b0, b1, *ends = given[10:19]
+    assert b0 <= b1 <= len(s) and [19, *ends] == sorted([19, *ends]) and ends[5] == len(given)
+    words, keys, lengths, held, roots, _ = (given[a:b] for a, b in zip([19, *ends], ends))
     return given[:10], [flags, roots, s[:b0], words, s[b0:b1], s[b1:], keys, lengths, held]
 
 
@@ -563,24 +590,29 @@ def leaves(answer):
 
 
 DOCUMENT = {
-    "vk_read_count": leaves(read_count),
-    "vk_shortest_len": leaves(lambda s, v: [0, shortest_len(v)]),
-    "vk_decode_entry": leaves(lambda s, word: decode(word, 0)),
-    "vk_encode_entry": leaves(lambda s, *entry: encode_entry(*entry)),
-    "vk_scan": leaves(scan_layout),
-    "vk_root": leaves(root_at),
-    "vk_entry": leaves(entry_at),
-    "vk_children": leaves(each_node(judge_children)),
-    "vk_order": leaves(each_node(judge_order)),
-    "vk_strict": leaves(each_node(judge_strict)),
-    "vk_digest": leaves(digest_by_counting),
-    "vk_digest_with_table": lambda s, given, lent: (digest_with_table(s, given, lent), lent),
-    "vk_slots": build_slots,
-    "vk_write_count": lambda s, given, lent: write_count(lent, *given),
-    "vk_walk": lambda s, given, lent: walk_map(s, *given, lent),
-    "vk_lookup": lambda s, given, lent: (lookup(s, given, lent), lent),
-    "vk_values": lambda s, given, lent: (values(s, given, lent), lent),
-    "vk_write": lambda s, given, lent: write(*unlisted(s, given), lent),
+    "veka_read_count": leaves(read_count),
+    "veka_shortest_len": leaves(lambda s, v: [0, shortest_len(v)]),
+    "veka_decode_entry": leaves(lambda s, word: decode(word, 0)),
+    "veka_encode_entry": leaves(lambda s, *entry: encode_entry(*entry)),
+    "veka_scan": leaves(scan_layout),
+    "veka_root": leaves(root_at),
+    "veka_entry": leaves(entry_at),
+    "veka_children": leaves(each_node(judge_children)),
+    "veka_order": leaves(each_node(judge_order)),
+    "veka_strict": leaves(each_node(judge_strict)),
+    "veka_digest": leaves(digest_by_counting),
+    "veka_digest_with_table": lambda s, given, lent: (digest_with_table(s, given, lent), lent),
+    "veka_slots": build_slots,
+    "veka_write_count": lambda s, given, lent: write_count(lent, *given),
+    "veka_walk": lambda s, given, lent: walk_map(s, *given, lent),
+    "veka_lookup": lambda s, given, lent: (lookup(s, given, lent), lent),
+    "veka_values": lambda s, given, lent: (values(s, given, lent), lent),
+    "veka_write": lambda s, given, lent: write(*unlisted(s, given), lent),
+    "veka_flags": leaves(flags),
+    "veka_places": leaves(lambda s, at: [0, places(s, at)]),
+    "veka_key": lambda s, given, lent: (key_at(s, *given, lent), lent),
+    "veka_map_entry": lambda s, given, lent: (map_entry(s, *given, lent), lent),
+    "veka_version": leaves(lambda s: [0, LINKED]),
 }
 assert list(DOCUMENT) == CALLS
 
@@ -645,29 +677,29 @@ def modelled(model):
             rows, end = model.walk(bytes(s), *given)
         except model.Refused as r:
             return [r.number, r.place], [0] * len(lent)
-        return [0, len(rows), end], [row[1] for row in rows] + lent[len(rows):]
+        return [0, len(rows), end, len(s) - end], [row[1] for row in rows] + lent[len(rows):]
 
     answers = {
-        "vk_read_count": simple(count),
-        "vk_decode_entry": simple(lambda s, word: shown(*model.entry(word.to_bytes(8, "little"), 0, 0))),
-        "vk_encode_entry": simple(encoded),
-        "vk_scan": simple(scanned),
-        "vk_root": simple(lambda s, *args: [0, model.root(s, layout(args), args[12])]),
-        "vk_entry": simple(lambda s, *args: shown(*model.node(s, layout(args), args[12]))),
-        "vk_children": checks(model.children),
-        "vk_order": checks(model.order),
-        "vk_strict": checks(strict),
-        "vk_digest": simple(lambda s, *args: digest(s, args)),
-        "vk_digest_with_table": lambda s, given, lent: (refusing(digest)(s, given, lent), lent),
-        "vk_slots": slots,
-        "vk_walk": walked,
+        "veka_read_count": simple(count),
+        "veka_decode_entry": simple(lambda s, word: shown(*model.entry(word.to_bytes(8, "little"), 0, 0))),
+        "veka_encode_entry": simple(encoded),
+        "veka_scan": simple(scanned),
+        "veka_root": simple(lambda s, *args: [0, model.root(s, layout(args), args[12])]),
+        "veka_entry": simple(lambda s, *args: shown(*model.node(s, layout(args), args[12]))),
+        "veka_children": checks(model.children),
+        "veka_order": checks(model.order),
+        "veka_strict": checks(strict),
+        "veka_digest": simple(lambda s, *args: digest(s, args)),
+        "veka_digest_with_table": lambda s, given, lent: (refusing(digest)(s, given, lent), lent),
+        "veka_slots": slots,
+        "veka_walk": walked,
     }
 
     def answer(name, s, given, lent, number):
-        """What the model says, or None: it knows no facts but bytes, no kind above 8, and has all the room that it needs."""
-        if name not in answers or number == INDEX and name in ("vk_scan", "vk_encode_entry"):
+        """What the model says, or None: it knows no kind above 8 and no number above 32 bits, and has all the room that it needs."""
+        if name not in answers or name == "veka_encode_entry" and beyond_rust(given):
             return None
-        return None if number == ROOM and name in ("vk_walk", "vk_slots") else answers[name](s, given, lent)
+        return None if number == ROOM and name in ("veka_walk", "veka_slots") else answers[name](s, given, lent)
     return answer
 
 
@@ -689,56 +721,61 @@ def by_layout(what, layout, asked, s):
     return f"{what} {','.join(map(str, fields))} {asked} {hexed(s)}"
 
 
+def beyond_rust(entry):
+    """Whether an entry has a kind or a number that the Rust's type has not."""
+    return entry[0] > 8 or max(entry[1:]) >= 2**32
+
+
 def commands(name, s, given, lent, number):
-    if name == "vk_decode_entry":
+    if name == "veka_decode_entry":
         return ["entry " + given[0].to_bytes(8, "little").hex()]
-    if name == "vk_encode_entry" and number != INDEX:
+    if name == "veka_encode_entry" and not beyond_rust(given):
         ids = given[1:(3, 3, 2, 2, 2, 2, 1, 1, 1)[given[0]]]
         return [" ".join(["encode", KINDS[given[0]], *map(str, ids)])]
-    if name == "vk_read_count":  # the count reader is a shim, and no source: it only has to agree
+    if name == "veka_read_count":  # the count reader is a shim, and no source: it only has to agree
         return ["shim-count " + hexed(s[given[0]:])]
-    if name == "vk_scan" and number not in (INDEX, FORMAT):  # the Rust's facts are constants, and no format too
+    if name == "veka_scan" and number != FORMAT:  # the Rust's facts are constants
         return scan_command(s, given)
-    if name == "vk_root":
+    if name == "veka_root":
         return [by_layout("root", given, given[12], s)]
-    if name == "vk_entry":
+    if name == "veka_entry":
         return [by_layout("node", given, given[12], s)]
-    if name == "vk_slots" and number not in (TOO_MANY, ROOM):
+    if name == "veka_slots" and number not in (TOO_MANY, ROOM):
         return [by_layout("slots", given, str(given[13]) if given[12] else "-", s)]
-    if name == "vk_digest_with_table" and number != ROOM:  # the Rust takes a shorter table
+    if name == "veka_digest_with_table" and number != ROOM:  # the Rust takes a shorter table
         return [by_layout("digest-table", given, f"{','.join(map(str, lent)) or '.'} {given[12]}", s)]
-    if name == "vk_digest" and number != NO_HASH and all(
+    if name == "veka_digest" and number != NO_HASH and all(
             row_entry(s, given[7], i)[0] == 0 for i in range(min(given[0], 9))) and given[0] < 9:
         return [by_layout("digest", given, str(given[12]), s)]  # the Rust reads all entries, and rebuilds hashes
-    if name == "vk_walk" and number != ROOM:
+    if name == "veka_walk" and number != ROOM:
         return [f"map {given[0]} {hexed(s)}"]
     return []
 
 
-def said(name, given, lent, answer):
+def said(name, s, given, lent, answer):
     """An answer of the Rust in the numbers of a case; its count reader, which reads at 0, says the value alone."""
     words = answer.split(" | ")[0].split()
     if words[0] == "err":
-        at = given[0] if name == "vk_read_count" else 0
-        return [int(words[1]), at + int(words[3])], [0] * len(lent) if name == "vk_walk" else lent
+        at = given[0] if name == "veka_read_count" else 0
+        return [int(words[1]), at + int(words[3])], [0] * len(lent) if name == "veka_walk" else lent
     assert words[0] == "ok", answer
-    if name == "vk_slots":
+    if name == "veka_slots":
         left = (0, 0) if words[2] == "-" else (1, int(words[2]))
         return [0, *left], [*map(int, words[4:]), *lent[given[0]:]]
-    if name == "vk_walk":
+    if name == "veka_walk":
         keys = [int(w.split(":")[0]) for w in words[6:]]
-        return [0, int(words[2]), int(words[4])], keys + lent[len(keys):]
-    if name in ("vk_digest", "vk_digest_with_table"):
+        return [0, int(words[2]), int(words[4]), len(s) - int(words[4])], keys + lent[len(keys):]
+    if name in ("veka_digest", "veka_digest_with_table"):
         word = bytes.fromhex(words[1])
         return [0, *(le(word[k:k + 8]) for k in (0, 8, 16, 24))], lent
-    if name == "vk_scan":
+    if name == "veka_scan":
         *fields, hashes, map_at = words[2].split(",")
         return [0, *map(int, fields), *((0, 0) if hashes == "-" else (1, int(hashes))), int(map_at)], lent
-    if name in ("vk_root", "vk_read_count"):
+    if name in ("veka_root", "veka_read_count"):
         return [0, int(words[1])], lent
-    if name == "vk_encode_entry":
+    if name == "veka_encode_entry":
         return [0, le(bytes.fromhex(words[1]))], lent
-    ids = words[2:-2] if name == "vk_decode_entry" else words[2:]  # `next 8` comes last
+    ids = words[2:-2] if name == "veka_decode_entry" else words[2:]  # `next 8` comes last
     return [0, KINDS.index(words[1]), *map(int, ids), 0, 0][:4], lent
 
 
@@ -789,7 +826,7 @@ EDGES = sorted({0, 1, 2, TOP, 2**63, 2**32 - 1, 2**32} | {2**(7 * k) + d for k i
 def numbers():
     """Four bytes anywhere, as a root below any node count."""
     def held(at, s):
-        case("vk_root", *layout(nodes=TOP, roots=1, roots_at=at), 0, s=s)
+        case("veka_root", *layout(nodes=TOP, roots=1, roots_at=at), 0, s=s)
 
     for size in range(6):
         held(0, some(size))
@@ -804,44 +841,44 @@ def numbers():
 
 def counts():
     for v in EDGES:
-        case("vk_shortest_len", v)
+        case("veka_shortest_len", v)
         for size in range(shortest_len(v), 10):  # the shortest form, and every longer one
-            case("vk_read_count", 0, s=form(v, size))
+            case("veka_read_count", 0, s=form(v, size))
     for size in range(1, 10):
         whole = form(number() % 2**min(7 * size, 64), size)
         for left in range(size):  # cut short by each number of bytes
-            case("vk_read_count", 0, s=whole[:left])
+            case("veka_read_count", 0, s=whole[:left])
         for at in range(10):
-            case("vk_read_count", at, s=some(at) + whole + some(3))
+            case("veka_read_count", at, s=some(at) + whole + some(3))
         for at in (size, size + 1, *FAR):
-            case("vk_read_count", at, s=whole)
+            case("veka_read_count", at, s=whole)
     for first in range(256):
         if first < 2 or rng.random() < 0.2:
-            case("vk_read_count", 0, s=[first] + some(8))
-    case("vk_read_count", 4095, s=[i % 7 for i in range(4095)] + [255])
+            case("veka_read_count", 0, s=[first] + some(8))
+    case("veka_read_count", 4095, s=[i % 7 for i in range(4095)] + [255])
     for _ in range(60):
         v = number()
-        case("vk_shortest_len", v)
-        case("vk_write_count", rng.randrange(6), v, lent=some(rng.randrange(16)))
-        case("vk_read_count", rng.randrange(6), s=some(rng.randrange(16)))
+        case("veka_shortest_len", v)
+        case("veka_write_count", rng.randrange(6), v, lent=some(rng.randrange(16)))
+        case("veka_read_count", rng.randrange(6), s=some(rng.randrange(16)))
     for v in EDGES:
         size = shortest_len(v)
-        case("vk_write_count", 0, v, lent=some(size))
-        case("vk_write_count", 0, v, lent=some(size - 1))
-        case("vk_write_count", 2, v, lent=some(size + 4))
+        case("veka_write_count", 0, v, lent=some(size))
+        case("veka_write_count", 0, v, lent=some(size - 1))
+        case("veka_write_count", 2, v, lent=some(size + 4))
     for at in (0, 1, *FAR):
         for size in 0, 1, 9, 10:
-            case("vk_write_count", at, TOP, lent=some(size))
+            case("veka_write_count", at, TOP, lent=some(size))
 
 
-WORDS = "vk_digest, one word"
-TWO_WORDS = "vk_walk, two words", "vk_lookup, two words"
+WORDS = "veka_digest, one word"
+TWO_WORDS = "veka_walk, two words", "veka_lookup, two words"
 
 
 def words():
     """A word anywhere, as the digest of the one node, which is external; and two words side by side."""
     def word(at, s):
-        case("vk_digest", *layout(nodes=1, external=1, externals_at=min(8 + at, TOP)), 0, s=EXTERNAL + s, title=WORDS)
+        case("veka_digest", *layout(nodes=1, external=1, externals_at=min(8 + at, TOP)), 0, s=EXTERNAL + s, title=WORDS)
 
     def held(w, at=0, after=0):
         word(at, some(at) + little(w, 8) + some(after))
@@ -863,9 +900,9 @@ def words():
         held([number() for _ in range(4)], at=rng.randrange(8), after=rng.randrange(8))
 
     def two(a, b):
-        case("vk_walk", 0, s=map_bytes([(a, []), (b, [])]), lent=[71, 72], title=TWO_WORDS[0])
+        case("veka_walk", 0, s=map_bytes([(a, []), (b, [])]), lent=[71, 72], title=TWO_WORDS[0])
         # the same key twice in the table: it is compared once where a is above it, twice where a is below
-        case("vk_lookup", *a, 2, s=map_bytes([(b, [])]), lent=[1, 1], title=TWO_WORDS[1])
+        case("veka_lookup", *a, 2, s=map_bytes([(b, [])]), lent=[1, 1], title=TWO_WORDS[1])
 
     for i in range(4):
         for lower, upper in ((0, 1), (MODULUS - 2, MODULUS - 1), (MODULUS - 1, MODULUS), (2**63, TOP), (255, 256)):
@@ -883,39 +920,43 @@ def words():
 
 PAYLOADS = [0, 1, 2**30 - 1, 2**30, 2**30 + 2, 2**32 - 1, 2**32, 2**32 + 1, 2**60 - 1]
 IDS = [0, 1, 2**30 - 1, 2**30, 2**32 - 1]
-ONE_ROW = "vk_entry, one row"
+ONE_ROW = "veka_entry, one row"
 
 
 def one_row(first, i, s):
     """The entry of a row, of as many rows as there can be: only the last number is no row's."""
-    case("vk_entry", *layout(nodes=TOP, entries_at=first), i, s=s, title=ONE_ROW)
+    case("veka_entry", *layout(nodes=TOP, entries_at=first), i, s=s, title=ONE_ROW)
 
 
 def entries():
     for tag in range(16):
         for payload in PAYLOADS:
             word = tag * 2**60 + payload
-            case("vk_decode_entry", word)
+            case("veka_decode_entry", word)
             one_row(0, 0, little([word], 8))
     for _ in range(40):
-        case("vk_decode_entry", number())
+        case("veka_decode_entry", number())
         one_row(3, 0, some(3 + rng.randrange(12)))
     for kind in 0, 1:
         for left in IDS:
             for right in IDS:
-                case("vk_encode_entry", kind, left, right)
+                case("veka_encode_entry", kind, left, right)
     for kind in 2, 3, 4, 5:
         for id in IDS:
-            case("vk_encode_entry", kind, id, 0)
-            case("vk_encode_entry", kind, id, 2**32 - 1)  # a number that the kind has not
+            case("veka_encode_entry", kind, id, 0)
+            case("veka_encode_entry", kind, id, 2**32 - 1)  # a number that the kind has not
     for kind in 6, 7, 8:
         for ids in (0, 0), (1, 0), (0, 2**30), (2**32 - 1, 2**32 - 1):
-            case("vk_encode_entry", kind, *ids)
+            case("veka_encode_entry", kind, *ids)
     for kind in 9, 15, 16, 2**32, 2**60, TOP:
-        case("vk_encode_entry", kind, 0, 0)
-        case("vk_encode_entry", kind, 2**30, 2**30)
+        case("veka_encode_entry", kind, 0, 0)
+        case("veka_encode_entry", kind, 2**30, 2**30)
     for _ in range(30):
-        case("vk_encode_entry", rng.randrange(9), number() % 2**32, number() % 2**32)
+        case("veka_encode_entry", rng.randrange(9), number() % 2**32, number() % 2**32)
+    for kind in range(10):  # numbers that no entry has: looked at only where the kind has them
+        for wide in 2**32, 2**32 + 1, 2**63, TOP:
+            case("veka_encode_entry", kind, wide, 0)
+            case("veka_encode_entry", kind, 1, wide)
     for tag in 0, 3, 8, 9:
         word = little([tag * 2**60 + number() % 2**32], 8)
         for left in range(8):
@@ -932,18 +973,18 @@ def bench():
                  ("80ffffffffffffff", 2**56 - 1), ("000000000000000001", 2**56)):
         s = list(bytes.fromhex(s))
         assert read_count(s, 0) == [0, v, len(s), len(s)]
-        case("vk_read_count", 0, s=s)
+        case("veka_read_count", 0, s=s)
         if s != [2, 0]:  # the longer form of 0 is read, and not written
             assert write_count([7] * 10, 0, v) == ([0, len(s)], s + [7] * (10 - len(s)))
-            case("vk_write_count", 0, v, lent=[7] * 10)
+            case("veka_write_count", 0, v, lent=[7] * 10)
     for word, answer in ((0x40000002, [0, 0, 1, 2]), (0x0FFFFFFFFFFFFFFF, [0, 0, 2**30 - 1, 2**30 - 1]),
                          (0x2000000100000000, [PAYLOAD, 0]), (0x6000000000000001, [0, 6, 0, 0]),
                          (0x9000000000000000, [TAG, 0])):
         assert decode(word, 0) == answer
-        case("vk_decode_entry", word)
+        case("veka_decode_entry", word)
         one_row(0, 0, little([word], 8))
         if answer[0] == 0:
-            case("vk_encode_entry", *answer[1:])
+            case("veka_encode_entry", *answer[1:])
     assert encode_entry(6, 0, 0) == [0, 0x6000000000000000]
 
 
@@ -974,7 +1015,7 @@ scan_title = None  # after the maker at work
 
 
 def scan(s, allow=1, bound=None, facts=FACTS):
-    case("vk_scan", *facts, int(allow), *((0, 0) if bound is None else (1, bound)), s=s, title=f"vk_scan, {scan_title}")
+    case("veka_scan", *facts, int(allow), *((0, 0) if bound is None else (1, bound)), s=s, title=f"veka_scan, {scan_title}")
 
 
 P10 = [EXTERNAL, BLOCK, JOIN], [2], [0xAB]
@@ -1028,22 +1069,12 @@ def scan_headers():
         scan(good, facts=facts)
 
 
-WIDE = 256, 2**32, TOP  # no bytes, though the low one may be right
-
-
 def scan_given_numbers():
-    """What only the numbers of a call can say: facts that are no bytes, and flags that are neither 0 nor 1."""
+    """What only the numbers of a call can say: flags that are neither 0 nor 1."""
     good = forest(*P10)
-    for i in range(9):
-        for wide in *WIDE, 256 + FACTS[i]:
-            facts = [*FACTS[:i], wide, *FACTS[i + 1:]]
-            scan(good, facts=facts)
-            scan([], facts=[*facts[:8], TOP if i == 8 else facts[8], 2**30 + 1])  # before FORMAT and SHORT
-        for j in range(i + 1, 9):  # the first one is named
-            scan(good, facts=[256 if k in (i, j) else x for k, x in enumerate(FACTS)])
     for flag in 0, 1, 2, 255, 256, 2**32, 2**63, TOP:
         for bound in 0, len(good) - 16, 400:
-            case("vk_scan", *FACTS, 1, flag, bound, s=good, title=f"vk_scan, {scan_title}")
+            case("veka_scan", *FACTS, 1, flag, bound, s=good, title=f"veka_scan, {scan_title}")
 
 
 def scan_sizes():
@@ -1157,16 +1188,16 @@ def scan_random_files():
         scan(s, rng.randrange(5) > 0, rng.choice((None, None, rng.randrange(300), TOP)), facts)
 
 
-ALL_ROWS = "vk_slots, all rows", "vk_digest, all rows"
+ALL_ROWS = "veka_slots, all rows", "veka_digest, all rows"
 
 
 def all_rows(first, n, s):
     """The entries of n rows in turn: as many slots; or, of more than a table may have, the last one's digest."""
     lay = layout(nodes=n, entries_at=first)
     if n < TOP:
-        case("vk_slots", *lay, 0, 0, s=s, lent=[71 + i for i in range(n)], title=ALL_ROWS[0])
+        case("veka_slots", *lay, 0, 0, s=s, lent=[71 + i for i in range(n)], title=ALL_ROWS[0])
     else:
-        case("vk_digest", *lay, n - 1, s=s, title=ALL_ROWS[1])
+        case("veka_digest", *lay, n - 1, s=s, title=ALL_ROWS[1])
 
 
 def rows_by_number():
@@ -1198,7 +1229,7 @@ def readers_by_index():
 
     def both(s, i, **fields):
         f = made | fields
-        for name in "vk_root", "vk_entry":
+        for name in "veka_root", "veka_entry":
             case(name, f["nodes"], 2, 1, f["roots"], f["roots_at"], 16, 1, f["entries_at"], 41,
                  *rng.choice(((0, 0), (1, 73))), 73, i, s=s)
 
@@ -1257,7 +1288,7 @@ BAD = entry(9), entry(15, 2**60 - 1), entry(2, 2**32), entry(5, 2**60 - 1)
 
 def slots():
     def built(s, lay, *bound, lent):
-        case("vk_slots", *lay, *bound, s=s[:lay[8]], lent=lent)  # digests are not read
+        case("veka_slots", *lay, *bound, s=s[:lay[8]], lent=lent)  # digests are not read
 
     for n in range(8):
         s, lay = laid(some_rows(n))
@@ -1279,7 +1310,7 @@ def slots():
         built(s, lay, 1, 4 * nodes - 1, lent=[5])
     s, lay = laid([DYN, EXTERNAL])
     for at in (*range(14), TOP - 8, TOP - 7, TOP):
-        case("vk_slots", *lay[:7], at, *lay[8:], 0, 0, s=s[:18], lent=[5, 6, 7])
+        case("veka_slots", *lay[:7], at, *lay[8:], 0, 0, s=s[:18], lent=[5, 6, 7])
     for flag in 2, 256, 2**32, TOP:  # any flag but 0 is a bound
         for bound in 7, 8, 9:
             built(s, lay, flag, bound, lent=[5, 6, 7])
@@ -1289,8 +1320,8 @@ def slots():
 
 def digests():
     def both(s, lay, i, table):
-        case("vk_digest", *lay, i, s=s)
-        case("vk_digest_with_table", *lay, i, s=s, lent=table)
+        case("veka_digest", *lay, i, s=s)
+        case("veka_digest_with_table", *lay, i, s=s, lent=table)
 
     def built(s, lay):
         return build_slots(s, [*lay, 0, 0], [0] * lay[0])[1]
@@ -1300,9 +1331,9 @@ def digests():
             s, lay = laid(some_rows(n), hashes)
             for i in range(n + 2):
                 both(s, lay, i, built(s, lay))
-            case("vk_digest_with_table", *lay, 0, s=s, lent=built(s, lay)[:-1])  # ROOM
-            case("vk_digest_with_table", *lay, n, s=s)  # INDEX before ROOM
-            case("vk_digest_with_table", *lay, n - 1, s=s, lent=built(s, lay) + [9, 9])
+            case("veka_digest_with_table", *lay, 0, s=s, lent=built(s, lay)[:-1])  # ROOM
+            case("veka_digest_with_table", *lay, n, s=s)  # INDEX before ROOM
+            case("veka_digest_with_table", *lay, n - 1, s=s, lent=built(s, lay) + [9, 9])
     for n in range(1, 5):
         for bad in BAD:
             for at in range(n):
@@ -1318,7 +1349,7 @@ def digests():
                 both(s[:41], lay, 0, [0])
         for slot in 0, 1, 2, 2**32 - 1:  # a lent slot may be any
             s, lay = laid([row, row])
-            case("vk_digest_with_table", *lay, 1, s=s, lent=[0, slot])
+            case("veka_digest_with_table", *lay, 1, s=s, lent=[0, slot])
         for k in range(4):
             s, lay = laid([row], entries_at=0, externals_at=8, hashes_at=8)
             s = list(row) + little([MODULUS - (j != k) for j in range(4)], 8)
@@ -1331,7 +1362,7 @@ def digests():
         both(s[:8], lay, 0, [0])
 
 
-CHECKS = "vk_children", "vk_order", "vk_strict"
+CHECKS = "veka_children", "veka_order", "veka_strict"
 
 
 def node_checks():
@@ -1382,13 +1413,13 @@ def some_entries(n):
 
 
 def looked(s, n, key, table, title=None):
-    for name in "vk_lookup", "vk_values":
+    for name in "veka_lookup", "veka_values":
         case(name, *key, n, s=s, lent=table, title=title)
 
 
 def maps():
     def walked(s, at, room):
-        case("vk_walk", at, s=s, lent=[number() for _ in range(room)])
+        case("veka_walk", at, s=s, lent=[number() for _ in range(room)])
 
     for n in range(7):
         for _ in range(4):
@@ -1484,7 +1515,7 @@ def largest_map(order):
 SPARE = 20  # places of a table that no entry fills
 MARKS = [9000 + i for i in range(150)]  # no offsets of the smaller files
 MADE, LARGEST = (0, 1, 2, 3, 100), 2000
-MADE_TITLE, LARGEST_TITLE = (f"vk_walk, vk_lookup and vk_values, made maps of {n} entries" for n in ("0 to 100", LARGEST))
+MADE_TITLE, LARGEST_TITLE = (f"veka_walk, veka_lookup and veka_values, made maps of {n} entries" for n in ("0 to 100", LARGEST))
 
 
 def asked_of(n, order):
@@ -1500,7 +1531,7 @@ def asked_of(n, order):
 
 def made_maps():
     def walked(places, *made):
-        case("vk_walk", 0, s=made_map(*made), lent=MARKS[:places], title=MADE_TITLE)
+        case("veka_walk", 0, s=made_map(*made), lent=MARKS[:places], title=MADE_TITLE)
 
     def looked_up(n, order, places, asked, k):
         """Over the table that a walk with so many places leaves."""
@@ -1532,7 +1563,7 @@ LARGEST_MARKS = [i % 9 + 1 for i in range(LARGEST + 1)]
 
 def largest_maps():
     def walked(at, places, order):
-        case("vk_walk", at, s=largest_map(order), lent=LARGEST_MARKS[:places], title=LARGEST_TITLE)
+        case("veka_walk", at, s=largest_map(order), lent=LARGEST_MARKS[:places], title=LARGEST_TITLE)
 
     for order in ORDERS:
         walked(1, LARGEST, order)
@@ -1541,8 +1572,8 @@ def largest_maps():
     s = largest_map(SHUFFLED)
     table = walk(s, 1, LARGEST)[1]
     for k in LARGEST_ASKED:
-        case("vk_lookup", *made_key(k), LARGEST, s=s, lent=table, title=LARGEST_TITLE)
-    case("vk_values", *made_key(LARGEST_ASKED[1]), LARGEST, s=s, lent=table, title=LARGEST_TITLE)
+        case("veka_lookup", *made_key(k), LARGEST, s=s, lent=table, title=LARGEST_TITLE)
+    case("veka_values", *made_key(LARGEST_ASKED[1]), LARGEST, s=s, lent=table, title=LARGEST_TITLE)
 
 
 def made_well_covered(answers):
@@ -1577,18 +1608,18 @@ def made_well_covered(answers):
             key = made_key(k)
             assert (key in entries) == (k % 2 == 1 and k < 2 * n)
             answer, _ = recorded(name, [*key, n], s, table_of(k))
-            if name == "vk_lookup" and answer[0] == 0:
+            if name == "veka_lookup" and answer[0] == 0:
                 *answer, compared = answer
                 assert compared <= n.bit_length()
             held = entries.get(key)
-            if held is None or TOP in held and name == "vk_values":
-                assert answer == ([0, 0, 0, 0] if name == "vk_lookup" else [0, 0, 0])
+            if held is None:
+                assert answer == [0, 0, 0, 0]
             elif TOP in held:
                 assert answer == [ELEMENT, places[key] + 33 + 8 * held.index(TOP)]
-            elif name == "vk_lookup":
+            elif name == "veka_lookup":
                 assert answer == [0, 1, places[key] + 33, len(held)]
             else:
-                assert answer == [0, places[key] + 33, 8 * len(held)]
+                assert answer == [0, 1, places[key] + 33, 8 * len(held)]
 
     for n in MADE:
         for order in ORDERS:
@@ -1596,30 +1627,30 @@ def made_well_covered(answers):
             s, rows = made_map(n, order), [places[key] for key in sorted(places)]
             assert end == len(s)
             for spare in 0, 1, SPARE:
-                assert recorded("vk_walk", [0], s, MARKS[:n + spare]) == ([0, n, end], rows + MARKS[n:n + spare])
-            assert recorded("vk_walk", [0], made_map(n, order, 0, 1), MARKS[:n])[0][0] == SHORT
+                assert recorded("veka_walk", [0], s, MARKS[:n + spare]) == ([0, n, end, 0], rows + MARKS[n:n + spare])
+            assert recorded("veka_walk", [0], made_map(n, order, 0, 1), MARKS[:n])[0][0] == SHORT
             if n:
                 twice, last = made_map(n, order, 1), list(places.values())[-1]
-                assert recorded("vk_walk", [0], s, MARKS[:n - 1]) == ([ROOM, last], [0] * (n - 1))
+                assert recorded("veka_walk", [0], s, MARKS[:n - 1]) == ([ROOM, last], [0] * (n - 1))
                 for spare in 1, SPARE:
-                    assert recorded("vk_walk", [0], twice, MARKS[:n + spare]) == ([DUPLICATE, end], [0] * (n + spare))
-                assert recorded("vk_walk", [0], twice, MARKS[:n]) == ([ROOM, end], [0] * n)
-                assert recorded("vk_walk", [0], made_map(n, order, 1, 1), MARKS[:n + 1])[0][0] == SHORT
+                    assert recorded("veka_walk", [0], twice, MARKS[:n + spare]) == ([DUPLICATE, end], [0] * (n + spare))
+                assert recorded("veka_walk", [0], twice, MARKS[:n]) == ([ROOM, end], [0] * n)
+                assert recorded("veka_walk", [0], made_map(n, order, 1, 1), MARKS[:n + 1])[0][0] == SHORT
             asked = asked_of(n, order)
             assert len(asked) >= 8
-            for name in "vk_lookup", "vk_values":
+            for name in "veka_lookup", "veka_values":
                 well_looked(n, order, s, places, asked, lambda k: rows if k % 2 else rows + MARKS[n:n + SPARE], name)
     for order in ORDERS:
         places, end = laid_out(LARGEST, order, 9)
         s, rows = largest_map(order), [places[key] for key in sorted(places)]
-        assert recorded("vk_walk", [1], s, LARGEST_MARKS[:-1]) == ([0, LARGEST, end], rows) and end < len(s)
+        assert recorded("veka_walk", [1], s, LARGEST_MARKS[:-1]) == ([0, LARGEST, end, len(s) - end], rows) and end < len(s)
     last = list(places.values())[-1]
-    assert recorded("vk_walk", [1], s, LARGEST_MARKS[:-2]) == ([ROOM, last], [0] * (LARGEST - 1))
-    assert recorded("vk_walk", [0], s, LARGEST_MARKS) == ([DUPLICATE, end], [0] * (LARGEST + 1))
-    well_looked(LARGEST, SHUFFLED, s, places, LARGEST_ASKED, lambda k: rows, "vk_lookup")
+    assert recorded("veka_walk", [1], s, LARGEST_MARKS[:-2]) == ([ROOM, last], [0] * (LARGEST - 1))
+    assert recorded("veka_walk", [0], s, LARGEST_MARKS) == ([DUPLICATE, end], [0] * (LARGEST + 1))
+    well_looked(LARGEST, SHUFFLED, s, places, LARGEST_ASKED, lambda k: rows, "veka_lookup")
     middle = made_key(LARGEST_ASKED[1])
     held = dict(made_entries(LARGEST, SHUFFLED))[middle]
-    assert recorded("vk_values", [*middle, LARGEST], s, rows)[0] == [0, places[middle] + 33, 8 * len(held)] and held
+    assert recorded("veka_values", [*middle, LARGEST], s, rows)[0] == [0, 1, places[middle] + 33, 8 * len(held)] and held
 
 
 # ---- files to write
@@ -1669,7 +1700,7 @@ def some_parts(facts, flags, hashless, nodes, entries, raw=False, roots=0, block
 
 
 FILLED = [i % 9 + 1 for i in range(1024)]  # an output before: nonzero, neighbours differ, and one digit each
-REWRITTEN, READ_AGAIN = "vk_write, parts of files", "vk_scan and vk_walk, files and what is written of them"
+REWRITTEN, READ_AGAIN = "veka_write, parts of files", "veka_scan and veka_walk, files and what is written of them"
 rewritten = []  # facts, file, whether it starts with what is written
 
 
@@ -1689,10 +1720,10 @@ def rewrite(facts, s):
     assert equal == (shortest and parts == as_read(parts)) and all(size == least for size, least in counts_again)
     assert again == as_read(parts) and written == file_of(facts, again)
     rewritten.append((facts, s, equal))
-    case("vk_write", *given, s=held, lent=FILLED[:end], title=REWRITTEN)
+    case("veka_write", *given, s=held, lent=FILLED[:end], title=REWRITTEN)
     for one in s, written:
-        case("vk_scan", *facts, 1, 0, 0, s=one, title=READ_AGAIN)
-        case("vk_walk", scan_layout(one, *facts, 1, 0, 0)[12], s=one, lent=FILLED[:8], title=READ_AGAIN)
+        case("veka_scan", *facts, 1, 0, 0, s=one, title=READ_AGAIN)
+        case("veka_walk", scan_layout(one, *facts, 1, 0, 0)[12], s=one, lent=FILLED[:8], title=READ_AGAIN)
 
 
 def rewrites():
@@ -1743,10 +1774,8 @@ def cut_or_more(part, *sizes):
 
 
 def spoil(name, facts, parts, at, whole=32):
-    """Makes facts and parts meet a line of the writer's table, at the fact, node or key `at`."""
-    if name == "INDEX":
-        facts[at] = rng.choice((*WIDE, facts[at] + 256))
-    elif name == "FORMAT":
+    """Makes facts and parts meet a line of the writer's table, at the node or key `at`."""
+    if name == "FORMAT":
         facts[7:] = rng.choice(([0, *facts[8:]], [facts[7] | 3 << 3, *facts[8:]], [facts[7], facts[8] | facts[7], facts[9]],
                                 [*facts[7:9], 2**30 + 1], [*facts[7:9], TOP]))
     elif name == "FLAGS":
@@ -1770,18 +1799,18 @@ def spoil(name, facts, parts, at, whole=32):
         parts[6][4 * at:4 * at + 4] = parts[6][4 * other:4 * other + 4]
 
 
-LINES = "INDEX,FORMAT,FLAGS,TOO-MANY,TAG,PAYLOAD,PARTS 1,PARTS 2,PARTS 3,PARTS 4,ELEMENT,DUPLICATE,ROOM".split(",")
+LINES = "FORMAT,FLAGS,TOO-MANY,TAG,PAYLOAD,PARTS 1,PARTS 2,PARTS 3,PARTS 4,ELEMENT,DUPLICATE,ROOM".split(",")
 # both of two lines met, and the first of them given; TAG and PAYLOAD go node by node, ELEMENT and DUPLICATE key by key
 PAIRS = [*zip(LINES, LINES[1:]), ("PAYLOAD", "TAG"), ("TAG", "PARTS 1"), ("TOO-MANY", "PAYLOAD"), ("DUPLICATE", "ELEMENT"),
-         ("PARTS 4", "DUPLICATE"), ("ELEMENT", "ROOM"), ("FORMAT", "ROOM"), ("PARTS 1", "ROOM"), ("INDEX", "ROOM")]
-OTHER_PARTS = "vk_write, other parts"
+         ("PARTS 4", "DUPLICATE"), ("ELEMENT", "ROOM"), ("FORMAT", "ROOM"), ("PARTS 1", "ROOM")]
+OTHER_PARTS = "veka_write, other parts"
 
 
 def written_parts():
     def asked(facts, parts, spare):
         room = min(max(file_length(parts) + spare, 0), len(FILLED))
         given, held = listed(facts, parts)
-        case("vk_write", *given, s=held, lent=FILLED[:room], title=OTHER_PARTS)
+        case("veka_write", *given, s=held, lent=FILLED[:room], title=OTHER_PARTS)
         return [name for name, *_ in met(facts, parts, room)]
 
     def some_case(entries=None, order=SHUFFLED, hashless=None):
@@ -1800,11 +1829,9 @@ def written_parts():
         facts, parts = some_case()
         assert asked(facts, parts, spare) == ["ROOM"]
     for name in LINES[:-1]:
-        for i in range(9 if name == "INDEX" else 6):
+        for i in range(6):
             facts, parts = some_case(4 if name == "ELEMENT" else None, order=rng.randrange(3), hashless=i % 2)
-            if name == "INDEX":
-                at = i
-            elif name in ("TAG", "PAYLOAD"):
+            if name in ("TAG", "PAYLOAD"):
                 at = (0, 1, 1, 0, -1, -1)[i] % len(parts[3])
             elif name == "ELEMENT":
                 at = i % 4
@@ -1820,7 +1847,7 @@ def written_parts():
     for first, second in PAIRS:
         for i in range(3):
             facts, parts = some_case(hashless=i % 2)
-            places = {"TAG": 0, "PAYLOAD": 0, "ELEMENT": 1, "DUPLICATE": 1, "INDEX": 3 * i}
+            places = {"TAG": 0, "PAYLOAD": 0, "ELEMENT": 1, "DUPLICATE": 1}
             if {first, second} in ({"TAG", "PAYLOAD"}, {"ELEMENT", "DUPLICATE"}):
                 places[second] += 1
             if (first, second) == ("ELEMENT", "DUPLICATE") and i == 0:  # of one key: the earlier one is no word either
@@ -1836,6 +1863,110 @@ def written_parts():
             facts, parts = some_case(len(wrapped) + len(more))
             parts[7], parts[8] = wrapped + more, [5] * sum(more)
             assert sum(parts[7]) % 2**64 == len(parts[8]) and asked(facts, parts, 0)[0] == "PARTS 4"
+
+
+CLAIMS = "veka_write, claims of the order of keys"
+
+
+def true_order(keys):
+    """The key numbers by rising keys, equal ones by rising number."""
+    return sorted(range(len(keys) // 4), key=lambda i: keys[4 * i:4 * i + 4])
+
+
+def claimed_orders():
+    """No claim, the true one and wrong ones: turned round, short, long, twice the same, of no key. The answer is the same."""
+    def asked(facts, parts, spare):
+        order = true_order(parts[6])
+        n = len(order)
+        wrong = [order[::-1], order[:-1], order + [n], [0] * n, [n, *order[1:]], [TOP, *order[1:]], list(range(n))]
+        for claim in [], order, *wrong:
+            given, held = listed(facts, parts, claim)
+            case("veka_write", *given, s=held, lent=FILLED[:max(file_length(parts) + spare, 0)], title=CLAIMS)
+
+    facts = [*FACTS[:8], 0xF8, 6]
+    for order in ORDERS:
+        for entries in 1, 2, 3, 6:
+            asked(facts, some_parts(facts, 0, 1, 1, entries, order=order, longest=1), rng.choice((0, 0, 3)))
+        for at in 1, 3, 5:  # a key again
+            parts = some_parts(facts, 0, 1, 1, 6, order=order, longest=1)
+            spoil("DUPLICATE", facts, parts, at)
+            asked(facts, parts, 0)
+        parts = some_parts(facts, 0, 1, 1, 5, order=order, longest=1)
+        parts[6][8:20] = parts[6][:4] * 3  # the same key four times
+        asked(facts, parts, 0)
+        parts = some_parts(facts, 0, 1, 1, 4, order=order, longest=1)
+        spoil("ELEMENT", facts, parts, 2)
+        asked(facts, parts, 0)
+        asked(facts, some_parts(facts, 0, 1, 1, 3, order=order, longest=1), -1)  # ROOM
+
+
+def claims_well_covered(answers):
+    """For each set of parts the claims have one answer: a file, a refusal of a key again, others."""
+    by_parts = {}
+    for title, name, given, s, lent in all_cases("veka_write"):
+        if title == CLAIMS:
+            answer, after = answers[name, tuple(given), tuple(s), tuple(lent)]
+            facts, parts = unlisted(s, given)
+            claim = given[given[17]:]
+            kind = "none" if not claim else "true" if claim == true_order(parts[6]) else "wrong"
+            by_parts.setdefault(str((facts, parts, lent)), []).append((kind, answer, after))
+    for held in by_parts.values():
+        assert {kind for kind, *_ in held} == {"none", "true", "wrong"}
+        assert all(rest == list(held[0][1:]) for rest in ([answer, after] for _, answer, after in held))
+    numbers_said = [held[0][1][0] for held in by_parts.values()]
+    assert numbers_said.count(0) >= 12 and numbers_said.count(DUPLICATE) >= 12 and {ELEMENT, ROOM} <= set(numbers_said)
+
+
+def headers():
+    """The flags byte of any bytes, and the version."""
+    for size in range(12):
+        case("veka_flags", s=some(size))
+    for flags in 0, 1, 2, 90, 91, 92, 128, 255:
+        case("veka_flags", s=[*b"MAST", flags])
+        case("veka_flags", s=forest(*P10, flags=flags))
+    case("veka_version")
+
+
+def map_places():
+    """Places of a key table: how many are enough, the key at each, and the entry at each."""
+    def enough(s, at):
+        """As many places as are said to be enough serve as well as any more, and one less does not where the walk is whole."""
+        case("veka_places", at, s=s)
+        n = places(s, at)
+        assert walk_map(s, at, [0] * n)[0] == walk_map(s, at, [0] * (n + 3))[0]
+        assert n == 0 or walk(s, at, n)[0] or walk(s, at, n - 1)[0] == ROOM
+
+    def at_places(s, table, beyond=2):
+        for i in (*range(len(table) + beyond), TOP):
+            for name in "veka_key", "veka_map_entry":
+                case(name, i, s=s, lent=table)
+
+    for n in range(6):
+        for size in 0, 2, 9:
+            before = some(rng.randrange(3))
+            s = before + map_bytes(some_entries(n), size) + some(rng.randrange(3))
+            enough(s, len(before))
+            table = walk(s, len(before), 9)
+            if table[0] == 0:
+                at_places(s, table[1])
+    for said in 0, 1, 2, 3, 127, 128, 2**56, TOP:  # more and fewer than there are
+        for size in 0, 32, 33, 34, 65, 66, 67, 99:
+            s = form(said, shortest_len(said))
+            enough(s + [0] * size, 0)
+    whole = map_bytes([([1, 2, 3, 4], [5, 6]), ([1, 2, 3, 3], [])])
+    for left in range(0, len(whole), 3):
+        enough(whole[:left], 0)
+        at_places(whole[:left], [1], 0)
+    for at in (0, 1, len(whole), len(whole) + 1, *FAR):
+        enough(whole, at)
+        at_places(whole, [at], 0)
+    for k in range(4):
+        for x in MODULUS - 1, MODULUS, TOP:
+            at_places(map_bytes([([x if j == k else 5 for j in range(4)], [3])]), [1], 0)
+    for length in 2**61 - 1, 2**61, TOP, 3, 2:  # OVERFLOW and SHORT of the values
+        at_places([3] + [0] * 32 + form(length, 9) + [0] * 16, [1], 0)
+    at_places(map_bytes([([9, 0, 0, 0], [MODULUS, TOP])]), [1], 0)  # values are not judged
+    at_places(whole, [], 1)
 
 
 def writer_well_covered(answers):
@@ -1869,14 +2000,14 @@ def writer_well_covered(answers):
     assert sum(keys not in (sorted(keys), sorted(keys)[::-1]) for keys in orders) > 10
     for facts, s, parts, end, *_ in files:  # each is written, and it and what is written are read to the end
         given, held = listed(facts, parts)
-        (_, n), out = answers["vk_write", tuple(given), tuple(held), tuple(FILLED[:end])]
+        (_, n), out = answers["veka_write", tuple(given), tuple(held), tuple(FILLED[:end])]
         assert out[n:] == FILLED[n:end]
         for one, to in (s, end), (out[:n], n):
-            (number, *lay), _ = answers["vk_scan", (*facts, 1, 0, 0), tuple(one), ()]
-            walked, _ = answers["vk_walk", (lay[11],), tuple(one), tuple(FILLED[:8])]
-            assert number == 0 and walked == [0, len(parts[7]), to]
+            (number, *lay), _ = answers["veka_scan", (*facts, 1, 0, 0), tuple(one), ()]
+            walked, _ = answers["veka_walk", (lay[11],), tuple(one), tuple(FILLED[:8])]
+            assert number == 0 and walked == [0, len(parts[7]), to, len(one) - to]
     made = [(*unlisted(s, given), lent, *answers[name, tuple(given), tuple(s), tuple(lent)])
-            for title, name, given, s, lent in all_cases("vk_write") if title == OTHER_PARTS]
+            for title, name, given, s, lent in all_cases("veka_write") if title == OTHER_PARTS]
     lines = [met(facts, parts, len(lent)) for facts, parts, lent, *_ in made]
     assert len(made) >= 140 and all(answer == list(seen[0][1:]) for (*_, answer, _), seen in zip(made, lines) if seen)
     given = [seen[0][0] if seen else None for seen in lines]
@@ -1884,7 +2015,6 @@ def writer_well_covered(answers):
     for first, second in PAIRS:
         assert sum(names[:1] == [first] and second in names for names in ([name for name, *_ in seen] for seen in lines)) >= 3
     assert all((lent == out) == (answer[0] != 0) for *_, lent, answer, out in made)
-    assert {place for *_, (number, place), _ in made if number == INDEX} == set(range(9))
     assert {place for *_, (number, place), _ in made if number == DUPLICATE} >= {1, 2, 3, 5}
     assert {place for *_, (number, place), _ in made if number == ELEMENT} >= {0, 1, 2, 3}
     short = [answer[1] - len(lent) for *_, lent, answer, _ in made if answer[0] == ROOM]
@@ -1896,14 +2026,10 @@ def writer_well_covered(answers):
 def well_covered():
     """Each line of the scan's table refuses two files or more, one by the least that can be, and is passed
     by one at the limit itself. (4 x roots is never 2 ** 64 - 1: the nearest is 3 below.)"""
-    excesses, wide = {}, []
-    for _, _, given, s, _ in all_cases("vk_scan"):
-        if wide_fact(given) is not None:
-            wide.append(wide_fact(given))
-            continue
+    excesses = {}
+    for _, _, given, s, _ in all_cases("veka_scan"):
         for line, _, _, excess in looked_at(s, given):
             excesses.setdefault(line, []).append(excess)
-    assert set(wide) == set(range(9))
     assert len(excesses.pop(None)) > 100 and len(excesses) == 26
     for line, seen in excesses.items():
         assert sum(x > 0 for x in seen) > 1 and 1 in seen and (-3 if line == "OVERFLOW roots" else 0) in seen, line
@@ -1911,8 +2037,8 @@ def well_covered():
 
 # where each call takes a place of the file or of the output
 PLACES = {
-    "vk_read_count": [0], "vk_write_count": [0], "vk_walk": [0], "vk_root": [4], "vk_entry": [7], "vk_slots": [7],
-    "vk_children": [7], "vk_order": [7], "vk_strict": [7], "vk_digest": [7, 8, 10], "vk_digest_with_table": [7, 8, 10],
+    "veka_read_count": [0], "veka_write_count": [0], "veka_walk": [0], "veka_root": [4], "veka_entry": [7], "veka_slots": [7],
+    "veka_places": [0], "veka_children": [7], "veka_order": [7], "veka_strict": [7], "veka_digest": [7, 8, 10], "veka_digest_with_table": [7, 8, 10],
 }
 
 
@@ -1921,20 +2047,20 @@ def far_well_covered():
     for name, places in PLACES.items():
         for i in places:
             assert {TOP, TOP - 7, TOP - 8, TOP - 15, TOP - 31} & {given[i] for _, _, given, *_ in all_cases(name)}, (name, i)
-    for name in "vk_lookup", "vk_values":
+    for name in "veka_lookup", "veka_values":
         assert any(TOP in lent for *_, lent in all_cases(name)) and any(given[4] == TOP for _, _, given, *_ in all_cases(name))
 
 
 def words_well_covered(answers):
     """Two words: their order both ways, the same one twice, and what is no word; by the lookup all of them."""
     seen = {name: set() for name in TWO_WORDS}
-    for title, name, given, s, lent in all_cases("vk_walk", "vk_lookup"):
+    for title, name, given, s, lent in all_cases("veka_walk", "veka_lookup"):
         answer, after = answers[name, tuple(given), tuple(s), tuple(lent)]
         if title == TWO_WORDS[0]:
             a, b = word_at(s, 1), word_at(s, 34)
             no_word = [at for at, w in ((1, a), (34, b)) if max(w) >= MODULUS]
             assert (answer, after) == (([ELEMENT, no_word[0]], [0, 0]) if no_word else ([DUPLICATE, 34], [0, 0]) if a == b
-                                       else ([0, 2, 67], [1, 34] if a < b else [34, 1]))
+                                       else ([0, 2, 67, len(s) - 67], [1, 34] if a < b else [34, 1]))
             seen[title].add((answer[0], *after))
         elif title == TWO_WORDS[1]:
             a, b = given[:4], word_at(s, 1)
@@ -1944,41 +2070,45 @@ def words_well_covered(answers):
     assert len(seen[TWO_WORDS[1]]) >= 5
 
 
-# what each call has to say: 0 where it accepts, and every refusal that it has; INDEX of rows that are too short cannot be asked
-# for, since facts, layouts and keys have all their numbers, and the writer's OVERFLOW needs more bytes than a machine has
+# what each call has to say: 0 where it accepts, and every refusal that it has; the writer's OVERFLOW needs more bytes than a machine has
 SAID = {
-    "vk_read_count": {0, SHORT},
-    "vk_shortest_len": {0},
-    "vk_decode_entry": {0, TAG, PAYLOAD},
-    "vk_encode_entry": {0, PAYLOAD, INDEX},
-    "vk_scan": {0, *range(SHORT, EXTERNALS + 1), INDEX, FORMAT},
-    "vk_root": {0, SHORT, OVERFLOW, INDEX, ROOT_ID},
-    "vk_entry": {0, SHORT, OVERFLOW, TAG, PAYLOAD, INDEX},
-    "vk_children": {0, SHORT, OVERFLOW, TAG, PAYLOAD, CHILD_RANGE, FORWARD},
-    "vk_order": {0, SHORT, OVERFLOW, TAG, PAYLOAD, ORDER},
-    "vk_strict": {0, SHORT, OVERFLOW, TAG, PAYLOAD, NOT_CANONICAL},
-    "vk_digest": {0, SHORT, OVERFLOW, TAG, PAYLOAD, INDEX, NO_HASH, ELEMENT},
-    "vk_digest_with_table": {0, SHORT, OVERFLOW, TAG, PAYLOAD, INDEX, NO_HASH, ELEMENT, ROOM},
-    "vk_slots": {0, SHORT, OVERFLOW, TOO_MANY, BUDGET, TAG, PAYLOAD, ROOM},
-    "vk_write_count": {0, ROOM},
-    "vk_walk": {0, SHORT, OVERFLOW, ELEMENT, DUPLICATE, ROOM},
-    "vk_lookup": {0, SHORT, OVERFLOW, ELEMENT, ROOM},
-    "vk_values": {0},
-    "vk_write": {0, INDEX, FORMAT, FLAGS, TOO_MANY, TAG, PAYLOAD, PARTS, ELEMENT, DUPLICATE, ROOM},
+    "veka_read_count": {0, SHORT},
+    "veka_shortest_len": {0},
+    "veka_decode_entry": {0, TAG, PAYLOAD},
+    "veka_encode_entry": {0, PAYLOAD, INDEX},
+    "veka_scan": {0, *range(SHORT, EXTERNALS + 1), FORMAT},
+    "veka_root": {0, SHORT, OVERFLOW, INDEX, ROOT_ID},
+    "veka_entry": {0, SHORT, OVERFLOW, TAG, PAYLOAD, INDEX},
+    "veka_children": {0, SHORT, OVERFLOW, TAG, PAYLOAD, CHILD_RANGE, FORWARD},
+    "veka_order": {0, SHORT, OVERFLOW, TAG, PAYLOAD, ORDER},
+    "veka_strict": {0, SHORT, OVERFLOW, TAG, PAYLOAD, NOT_CANONICAL},
+    "veka_digest": {0, SHORT, OVERFLOW, TAG, PAYLOAD, INDEX, NO_HASH, ELEMENT},
+    "veka_digest_with_table": {0, SHORT, OVERFLOW, TAG, PAYLOAD, INDEX, NO_HASH, ELEMENT, ROOM},
+    "veka_slots": {0, SHORT, OVERFLOW, TOO_MANY, BUDGET, TAG, PAYLOAD, ROOM},
+    "veka_write_count": {0, ROOM},
+    "veka_walk": {0, SHORT, OVERFLOW, ELEMENT, DUPLICATE, ROOM},
+    "veka_lookup": {0, SHORT, OVERFLOW, ELEMENT, ROOM},
+    "veka_values": {0, SHORT, OVERFLOW, ELEMENT, ROOM},
+    "veka_write": {0, FORMAT, FLAGS, TOO_MANY, TAG, PAYLOAD, PARTS, ELEMENT, DUPLICATE, ROOM},
+    "veka_flags": {0, SHORT},
+    "veka_places": {0},
+    "veka_key": {0, SHORT, INDEX, ELEMENT},
+    "veka_map_entry": {0, SHORT, OVERFLOW, INDEX, ELEMENT},
+    "veka_version": {0},
 }
 # the same of some sections, by call
 SAID_THERE = {
-    (ONE_ROW, "vk_entry"): {0, SHORT, OVERFLOW, TAG, PAYLOAD, INDEX},
-    (ALL_ROWS[0], "vk_slots"): {0, SHORT, OVERFLOW, TAG, PAYLOAD},
-    (ALL_ROWS[1], "vk_digest"): {SHORT, OVERFLOW, PAYLOAD},
-    (WORDS, "vk_digest"): {0, SHORT, OVERFLOW, ELEMENT},
-    (MADE_TITLE, "vk_walk"): {0, SHORT, DUPLICATE, ROOM},
-    (MADE_TITLE, "vk_lookup"): {0, SHORT, ELEMENT, ROOM},
-    (LARGEST_TITLE, "vk_walk"): {0, DUPLICATE, ROOM},
-    (LARGEST_TITLE, "vk_lookup"): {0},
-    (READ_AGAIN, "vk_scan"): {0},
-    (READ_AGAIN, "vk_walk"): {0},
-    (REWRITTEN, "vk_write"): {0},
+    (ONE_ROW, "veka_entry"): {0, SHORT, OVERFLOW, TAG, PAYLOAD, INDEX},
+    (ALL_ROWS[0], "veka_slots"): {0, SHORT, OVERFLOW, TAG, PAYLOAD},
+    (ALL_ROWS[1], "veka_digest"): {SHORT, OVERFLOW, PAYLOAD},
+    (WORDS, "veka_digest"): {0, SHORT, OVERFLOW, ELEMENT},
+    (MADE_TITLE, "veka_walk"): {0, SHORT, DUPLICATE, ROOM},
+    (MADE_TITLE, "veka_lookup"): {0, SHORT, ELEMENT, ROOM},
+    (LARGEST_TITLE, "veka_walk"): {0, DUPLICATE, ROOM},
+    (LARGEST_TITLE, "veka_lookup"): {0},
+    (READ_AGAIN, "veka_scan"): {0},
+    (READ_AGAIN, "veka_walk"): {0},
+    (REWRITTEN, "veka_write"): {0},
 }
 
 # ---- the text
@@ -1989,9 +2119,15 @@ def first_call(title):
     return CALLS.index(title.split(",")[0].split(" ")[0]) + 1
 
 
-def laid_answer(answer, after):
-    """The number returned, the row `answer`, and what was lent."""
-    return [answer[0], *answer[1:], *MARKED[len(answer) - 1:], *after]
+def laid_answer(name, answer, after):
+    """The number returned, the place, the answer's places, and what was lent; or a plain number."""
+    number, *said = answer
+    if ANSWERS[name] is None:
+        return said
+    before = [91] if name == "veka_flags" else list(range(901, 901 + ANSWERS[name]))
+    laid = [number, *said, *before] if number else [0, PLACE, *said]
+    assert len(laid) == 2 + ANSWERS[name]
+    return laid + after
 
 
 def row(numbers):
@@ -2016,7 +2152,7 @@ def text_of(sections, answers):
             if s != file:
                 lines.append("=" + row(s))
                 file = s
-            lines.append(";".join(map(row, ([CALLS.index(name) + 1, *given], lent, laid_answer(*answers[one])))))
+            lines.append(";".join(map(row, ([CALLS.index(name) + 1, *given], lent, laid_answer(name, *answers[one])))))
     return "".join(line + "\n" for line in lines)
 
 
@@ -2048,15 +2184,17 @@ def read_again(text):
             lent_below = {12: 2**32, 13: 2**32, 14: 256, 18: 256}.get(call, 2**64)
             lent = group(second, 4096, lent_below)
             answer = group(third, 8192)
-            lends = call in (12, 13, 14, 15, 16, 17, 18)
-            assert (lends or not lent) and len(answer) == 13 + len(lent) and all(x < lent_below for x in answer[13:])
+            lends = call in (12, 13, 14, 15, 16, 17, 18, 21, 22)
+            width = {1: 3, 3: 3, 5: 12, 7: 3, 8: 0, 9: 0, 10: 0, 11: 4, 12: 4, 13: 2, 15: 3, 16: 4, 17: 3, 21: 4, 22: 6}.get(call, 1)
+            fixed_part = 1 if call in (2, 20, 23) else 2 + width
+            assert (lends or not lent) and len(answer) == fixed_part + len(lent) and all(x < lent_below for x in answer[fixed_part:])
+            assert call not in (5, 18) or max(given[:9]) < 256
             if call == 18:
-                assert given[10] < 256 and len(given) == given[17] and all(x < 2**32 for x in given[given[16]:])
+                assert given[10] < 256 and len(given) == given[18] and all(x < 2**32 for x in given[given[16]:given[17]])
             else:
                 fixed = {1: 1, 2: 1, 3: 1, 4: 3, 5: 13, 6: 13, 7: 13, 8: 12, 9: 12, 10: 12, 11: 13, 12: 13, 13: 14, 14: 2,
-                         15: 1, 16: 5, 17: 5}
+                         15: 1, 16: 5, 17: 5, 19: 0, 20: 1, 21: 1, 22: 1, 23: 0}
                 assert len(given) == fixed[call]
-            assert call != 4 or max(given[1:]) < 2**32
             assert call != 5 or given[10] < 2
             sections[-1][1].append((call, given, file, lent, answer))
     return sections
@@ -2064,7 +2202,7 @@ def read_again(text):
 
 MAKERS = [bench, numbers, counts, words, entries, scan_bench_files, scan_headers, scan_given_numbers, scan_sizes, scan_sections,
           scan_entries, scan_many_entries, scan_random_files, rows_by_number, readers_by_index, slots, digests, node_checks,
-          maps, made_maps, largest_maps, rewrites, written_parts]
+          maps, made_maps, largest_maps, map_places, rewrites, written_parts, claimed_orders, headers]
 
 
 def make_cases():
@@ -2092,18 +2230,18 @@ def asked_of_all(oracle, by_model, model, answers):
             source = "model.py"
         replied = [next(replies) for _ in ask]
         if ask:
-            reply = said(name, given, lent, replied[-1])
+            reply = said(name, s, given, lent, replied[-1])
             # the shim says a count's value alone
-            assert reply == (answer[:2] if name == "vk_read_count" else answer, after), (name, given, s, lent, reply)
-            source = source if name == "vk_read_count" else "the published Rust"
-        if name == "vk_write" and answer[0] == 0:  # neither has a writer of files: the model reads what is written, to the end
+            assert reply == (answer[:2] if name == "veka_read_count" else answer, after), (name, given, s, lent, reply)
+            source = source if name == "veka_read_count" else "the published Rust"
+        if name == "veka_write" and answer[0] == 0:  # neither has a writer of files: the model reads what is written, to the end
             facts, parts = unlisted(s, given)
             written = after[:answer[1]]
-            (number, *lay), _ = by_model("vk_scan", written, [*facts, 1, 0, 0], [], 0)
+            (number, *lay), _ = by_model("veka_scan", written, [*facts, 1, 0, 0], [], 0)
             assert number == 0
-            walked, _ = by_model("vk_walk", written, lay[11:], [0] * 8, 0)
-            assert walked == [0, len(parts[7]), len(written)]
-        if name == "vk_write_count" and answer[0] == 0:  # the model has no count writer: it reads back
+            walked, _ = by_model("veka_walk", written, lay[11:], [0] * 8, 0)
+            assert walked == [0, len(parts[7]), len(written), 0]
+        if name == "veka_write_count" and answer[0] == 0:  # the model has no count writer: it reads back
             assert model.count(bytes(after), given[0]) == (given[1], answer[1])
         sources[source] += 1
     assert next(replies, None) is None
@@ -2126,6 +2264,7 @@ def main(oracle, model_folder):
     words_well_covered(answers)
     made_well_covered(answers)
     writer_seen = writer_well_covered(answers)
+    claims_well_covered(answers)
     for name, numbers_said in SAID.items():
         assert {answer[0] for one, (answer, _) in answers.items() if one[0] == name} == numbers_said, name
     for (title, name), numbers_said in SAID_THERE.items():
@@ -2133,7 +2272,7 @@ def main(oracle, model_folder):
     sources = asked_of_all(oracle, modelled(model), model, answers)
     text = text_of(sections, answers)
     assert read_again(text) == [
-        (title, [(CALLS.index(name) + 1, [*given], [*s], [*lent], laid_answer(*answers[name, given, s, lent]))
+        (title, [(CALLS.index(name) + 1, [*given], [*s], [*lent], laid_answer(name, *answers[name, given, s, lent]))
                  for name, given, s, lent in held]) for title, held in sections.items()]
     seen = {title: len(held) for title, held in sections.items()}
     total = sum(seen.values())

@@ -51,10 +51,11 @@ def proved(lines):
 
 
 def complaint(lines):
-    """The first line that says what is wrong and is not about what follows from it."""
-    for line in lines:
+    """The first line that says what is wrong and is not about what follows from it; with the next, where that says that a field is missing."""
+    for i, line in enumerate(lines):
         if (": error" in line and "was not admitted" not in line) or "it is not proved that" in line:
-            return line
+            more = "".join(lines[i + 1 : i + 2]).strip()
+            return f"{line} {more}" if more.startswith("has no field") else line
     return ""
 
 

@@ -24,7 +24,7 @@ use Rattle.keys.specs.Sorted.{sorted}
 use Rattle.keys.specs.Keys.{sameKey, seenKey, keyOrder, keyLess}
 use Rattle.advice.specs.Walk.{nextEntry, adviceRules, walkRules, walkEnd, keyOffsets, Walked, mapRules, walkOutcome, keyTable}
 use Rattle.keys.specs.Sort.{sameAt, hasKey, firstRepeat, firstDuplicate, Ascending}
-use Rattle.advice.specs.Inner.{valuesRules, valuesOutcome, mapEntryRules, mapEntryOutcome, entriesOutcome, entriesTable, unlessRepeat, stopShown, FilledTo}
+use Rattle.advice.specs.Inner.{valuesRules, valuesOutcome, entryRules, entryEndOutcome, entriesOutcome, entriesTable, unlessRepeat, stopShown, FilledTo}
 use Rattle.keys.specs.declared.sort.Duplicate.{Duplicate}
 use Rattle.keys.specs.declared.sort.Duplicate.the-variants.{At as Again, Nothing}
 use Rattle.advice.specs.declared.walk.Stop.{Stop}
@@ -96,23 +96,23 @@ module _ (s : List ℕ) (at : ℕ) where
   abbrev afterKey : At (List ℕ) → Outcome ℕ
   afterKey w = valuesOutcome s (w .next) >>= (λ v. accepted (v .next + 8 * v .value))
 
-  entry-split : mapEntryOutcome s at ≡ (wordOutcome s at >>= afterKey)
-  unfolding mapEntryOutcome mapEntryRules wordOutcome valuesOutcome
+  entry-split : entryEndOutcome s at ≡ (wordOutcome s at >>= afterKey)
+  unfolding entryEndOutcome entryRules wordOutcome valuesOutcome
   entry-split =
       in-turn (wordRules s at) (record { value = fourAt s at; next = at + 32 }) (λ w. valuesRules s (w .next))
       (λ w. w .next + counted s (w .next) .len + 8 * counted s (w .next) .value) afterKey
       (λ w. in-the-end (valuesRules s (w .next)) (record { value = counted s (w .next) .value; next = w .next + counted s (w .next) .len }) (λ (v : At ℕ). v .next + 8 * v .value))
 
-  pub entry-no-key : (n p : ℕ) → refused n p ≡ wordOutcome s at → refused n p ≡ mapEntryOutcome s at
+  pub entry-no-key : (n p : ℕ) → refused n p ≡ wordOutcome s at → refused n p ≡ entryEndOutcome s at
   unfolding _>>=_
   entry-no-key n p e = rw (entry-split, ← e)
 
   module _ (length : ℕ) (said : accepted (record { value = fourAt s at; next = length }) ≡ wordOutcome s at) where
-    pub entry-no-values : (n p : ℕ) → refused n p ≡ valuesOutcome s length → refused n p ≡ mapEntryOutcome s at
+    pub entry-no-values : (n p : ℕ) → refused n p ≡ valuesOutcome s length → refused n p ≡ entryEndOutcome s at
     unfolding _>>=_
     entry-no-values n p e = rw (entry-split, ← said, ← e)
 
-    pub entry-whole : (n from : ℕ) → accepted (record { value = n; next = from }) ≡ valuesOutcome s length → accepted (from + 8 * n) ≡ mapEntryOutcome s at
+    pub entry-whole : (n from : ℕ) → accepted (record { value = n; next = from }) ≡ valuesOutcome s length → accepted (from + 8 * n) ≡ entryEndOutcome s at
     unfolding _>>=_
     entry-whole n from e = rw (entry-split, ← said, ← e)
 
@@ -197,27 +197,27 @@ module _ {A : Type 0} (places : ℕ) (s : List ℕ) (at n : ℕ) (seen : List (L
   unfolding walkRules firstMet
   room-here h = rw (le-leb _ _ h)
 
-  refused-here : length seen < places → (x p : ℕ) → mapEntryOutcome s at ≡ refused x p → firstMet (walkRules places s at (suc n) seen) v ≡ refused x p
-  unfolding walkRules firstMet mapEntryOutcome mapEntryRules wordRules valuesRules
+  refused-here : length seen < places → (x p : ℕ) → entryEndOutcome s at ≡ refused x p → firstMet (walkRules places s at (suc n) seen) v ≡ refused x p
+  unfolding walkRules firstMet entryEndOutcome entryRules wordRules valuesRules
   refused-here h x p e =
       rw (lt-leb _ _ h)
-      (first-stops (mapEntryRules s at) (rule DUPLICATE at (seenKey seen (fourAt s at)) ∷ walkRules places s (nextEntry s at) n (fourAt s at ∷ seen)) (nextEntry s at) v x p e)
+      (first-stops (entryRules s at) (rule DUPLICATE at (seenKey seen (fourAt s at)) ∷ walkRules places s (nextEntry s at) n (fourAt s at ∷ seen)) (nextEntry s at) v x p e)
 
-  passed-here : length seen < places → noneMet (mapEntryRules s at)
+  passed-here : length seen < places → noneMet (entryRules s at)
       → firstMet (walkRules places s at (suc n) seen) v
       ≡ pick (seenKey seen (fourAt s at)) (refused DUPLICATE at) (firstMet (walkRules places s (nextEntry s at) n (fourAt s at ∷ seen)) v)
-  unfolding walkRules firstMet mapEntryRules wordRules valuesRules
+  unfolding walkRules firstMet entryRules wordRules valuesRules
   passed-here h none =
       rw (lt-leb _ _ h)
-      (past-none (mapEntryRules s at) (rule DUPLICATE at (seenKey seen (fourAt s at)) ∷ walkRules places s (nextEntry s at) n (fourAt s at ∷ seen)) v none)
+      (past-none (entryRules s at) (rule DUPLICATE at (seenKey seen (fourAt s at)) ∷ walkRules places s (nextEntry s at) n (fourAt s at ∷ seen)) v none)
 
-pub entry-whole-key : (s : List ℕ) (at : ℕ) → noneMet (mapEntryRules s at) → isShort s at 32 ≡ false
-unfolding mapEntryRules wordRules
+pub entry-whole-key : (s : List ℕ) (at : ℕ) → noneMet (entryRules s at) → isShort s at 32 ≡ false
+unfolding entryRules wordRules
 entry-whole-key s at none = none .0
 
 module _ {A : Type 0} (places : ℕ) (s : List ℕ) (m : ℕ) (v : A) where
   after-entries : (k at : ℕ) (offsets : List ℕ) → Whole s offsets → k + length offsets ≤ places
-      → ((j : ℕ) → j < k → noneMet (mapEntryRules s (walkEnd s at j)))
+      → ((j : ℕ) → j < k → noneMet (entryRules s (walkEnd s at j)))
       → firstMet (walkRules places s at (k + m) (map (fourAt s) offsets)) v
       ≡ unlessRepeat (firstRepeat s offsets (keyOffsets s at k)) (firstMet (walkRules places s (walkEnd s at k) m (seenAfter s at k (map (fourAt s) offsets))) v)
   unfolding keyOffsets walkEnd firstRepeat seenAfter
@@ -244,7 +244,7 @@ module _ {A : Type 0} (places : ℕ) (s : List ℕ) (m : ℕ) (v : A) where
       go false = refl
 
 -- i entries are whole, and then the table is used up, or the next entry is refused, or there are no more
-module _ (places : ℕ) (s : List ℕ) (at n i : ℕ) (room : i ≤ places) (none : (j : ℕ) → j < i → noneMet (mapEntryRules s (walkEnd s at j))) where
+module _ (places : ℕ) (s : List ℕ) (at n i : ℕ) (room : i ≤ places) (none : (j : ℕ) → j < i → noneMet (entryRules s (walkEnd s at j))) where
   abbrev First : Duplicate
   First = firstDuplicate s (keyOffsets s at i)
 
@@ -262,7 +262,7 @@ module _ (places : ℕ) (s : List ℕ) (at n i : ℕ) (room : i ≤ places) (non
       let z : places ≤ length (seenAfter s at i []) = omega (arith, length-seen s at i []) in
       entries-left (suc (n - suc i)) (more h) ∙ ap (unlessRepeat First) (room-here places s (walkEnd s at i) (n - suc i) (seenAfter s at i []) _ z)
 
-  pub stopped-entry : i < n → i < places → (x p : ℕ) → refused x p ≡ mapEntryOutcome s (walkEnd s at i) → entriesOutcome places s at n ≡ unlessRepeat First (refused x p)
+  pub stopped-entry : i < n → i < places → (x p : ℕ) → refused x p ≡ entryEndOutcome s (walkEnd s at i) → entriesOutcome places s at n ≡ unlessRepeat First (refused x p)
   stopped-entry h l x p e =
       let z : length (seenAfter s at i []) < places = omega (arith, length-seen s at i []) in
       entries-left (suc (n - suc i)) (more h) ∙ ap (unlessRepeat First) (refused-here places s (walkEnd s at i) (n - suc i) (seenAfter s at i []) _ z x p (sym e))
@@ -274,14 +274,14 @@ module _ (places : ℕ) (s : List ℕ) (at n i : ℕ) (room : i ≤ places) (non
       rw e (rw e at (entries-left 0 z))
 
 -- an entry that is accepted is whole
-pub entry-taken : (s : List ℕ) (at next : ℕ) → accepted next ≡ mapEntryOutcome s at → noneMet (mapEntryRules s at) × (nextEntry s at ≡ next)
-unfolding mapEntryOutcome
-entry-taken s at next e = accepted-none (mapEntryRules s at) (nextEntry s at) next (sym e)
+pub entry-taken : (s : List ℕ) (at next : ℕ) → accepted next ≡ entryEndOutcome s at → noneMet (entryRules s at) × (nextEntry s at ≡ next)
+unfolding entryEndOutcome
+entry-taken s at next e = accepted-none (entryRules s at) (nextEntry s at) next (sym e)
 
 -- ---- where no rule is met: every entry is whole, the table has room, and there is no duplicate
 
-pub all-whole : (places : ℕ) (s : List ℕ) (at n : ℕ) (seen : List (List ℕ)) → noneMet (walkRules places s at n seen) → (j : ℕ) → j < n → noneMet (mapEntryRules s (walkEnd s at j))
-unfolding walkRules walkEnd mapEntryRules wordRules valuesRules
+pub all-whole : (places : ℕ) (s : List ℕ) (at n : ℕ) (seen : List (List ℕ)) → noneMet (walkRules places s at n seen) → (j : ℕ) → j < n → noneMet (entryRules s (walkEnd s at j))
+unfolding walkRules walkEnd entryRules wordRules valuesRules
 all-whole places s at zero seen none j h = absurd (omega arith)
 all-whole places s at (suc n) seen none zero h =
     let a = none-parts (adviceRules s at places seen) (walkRules places s (nextEntry s at) n (fourAt s at ∷ seen)) none .0 in
@@ -316,8 +316,8 @@ no-duplicate places s at n none =
     go (Again x) e = cc
 
 -- one more entry is whole
-pub whole-next : (s : List ℕ) (at i : ℕ) → ((j : ℕ) → j < i → noneMet (mapEntryRules s (walkEnd s at j))) → noneMet (mapEntryRules s (walkEnd s at i))
-    → (j : ℕ) → j < suc i → noneMet (mapEntryRules s (walkEnd s at j))
+pub whole-next : (s : List ℕ) (at i : ℕ) → ((j : ℕ) → j < i → noneMet (entryRules s (walkEnd s at j))) → noneMet (entryRules s (walkEnd s at i))
+    → (j : ℕ) → j < suc i → noneMet (entryRules s (walkEnd s at j))
 whole-next s at i none here j h = elim (ℕ-discrete j i) [ yes e ↦ rw e here | no d ↦ none j (omega arith) ]
 
 -- ---- the end of the walk, over what `fill` left: duplicates first, then what stopped it

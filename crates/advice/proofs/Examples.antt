@@ -6,15 +6,16 @@ use Prim.Native.Nat.{ℕ, _+_, _-_, _*_, _^_}
 use lib.Count.{trailingZeros}
 use lib.ListN.{length}
 use Rattle.wire.specs.Table.{Outcome, refused, accepted, firstMet, _>>=_}
-use Rattle.wire.specs.Refusals.{SHORT, OVERFLOW, ELEMENT, DUPLICATE, ROOM}
+use Rattle.wire.specs.Refusals.{SHORT, OVERFLOW, INDEX, ELEMENT, DUPLICATE, ROOM}
 use Rattle.wire.specs.Le.{le, leBytes, numberAt}
 use Rattle.wire.specs.Rows.{rows, numbersOf}
 use Rattle.wire.specs.Counts.{countLength, countValue, counted}
-use Rattle.wire.specs.Words.{modulus, isElement, notElements, fourAt, wordAt, wordOrder}
+use Rattle.wire.specs.Words.{modulus, isElement, notElements, fourAt, wordAt, wordOrder, wordRules}
 use Rattle.keys.specs.Sorted.{insert, sorted}
 use Rattle.keys.specs.Keys.{sameKey, seenKey, keyOrder, keyLess}
 use Rattle.advice.specs.Walk.{walkRules, walkEnd, keyOffsets, Walked, mapRules, walkOutcome, keyTable}
 use Rattle.advice.specs.Lookup.{halving, Looked, found, absent, elementRules, foundRules, foundOutcome, lookupOutcome, valuesPart}
+use Rattle.advice.specs.Table.{MapEntry, keyRules, keyOutcome, mapEntryRules, mapEntryOutcome, placesNeeded}
 
 -- ---- maps, by hand
 
@@ -52,10 +53,16 @@ noElement = small 1 ∷ entry 5 2 (1 ∷ modulus ∷ [])
 pub data Question : Type 0 where
   walk : List ℕ → ℕ → List ℕ → Question
   look : List ℕ → List ℕ → ℕ → List ℕ → Question
+  keyAt : List ℕ → List ℕ → ℕ → Question
+  entryAt : List ℕ → List ℕ → ℕ → Question
+  places : List ℕ → ℕ → Question
 
 pub data Answer : Type 0 where
   walked : Outcome Walked → List ℕ → Answer
   looked : Outcome Looked → List ℕ → Answer
+  keyed : Outcome (List ℕ) → Answer
+  entered : Outcome MapEntry → Answer
+  needed : ℕ → Answer
 
 pub record Example : Type 0 where
   pub question : Question
@@ -68,9 +75,15 @@ q ⇒ a = record { question = q; answer = a }
 abbrev pub ask : Question → Answer
 ask (walk s at t) = walked (walkOutcome (length t) s at) (keyTable s at t)
 ask (look s t n key) = looked (lookupOutcome s t n key) (valuesPart s (lookupOutcome s t n key))
+ask (keyAt s t i) = keyed (keyOutcome s t i)
+ask (entryAt s t i) = entered (mapEntryOutcome s t i)
+ask (places s at) = needed (placesNeeded s at)
 
 abbrev pub walks : ℕ → ℕ → List ℕ → Answer
 walks n end t = walked (accepted (record { entries = n; end = end })) t
+
+abbrev pub enters : List ℕ → ℕ → ℕ → Answer
+enters key from len = entered (accepted (record { key = key; values = from; len = len }))
 
 abbrev pub examples : List Example
 examples =
@@ -106,8 +119,28 @@ examples =
     ∷ (look two (42 ∷ 1 ∷ []) 3 (word 5) ⇒ looked (refused ROOM 3) [])
     ∷ (look two (44 ∷ []) 1 (word 5) ⇒ looked (refused SHORT 44) [])
     ∷ (look noElement (1 ∷ []) 1 (word 5) ⇒ looked (refused ELEMENT 42) [])
+    -- by place of the table: no such place; a key that is not all in the file, or is no word; an entry whose length, or whose values, are not all
+    -- there, or are too many; a value that is no element is not looked at
+    ∷ (keyAt two (42 ∷ 1 ∷ []) 0 ⇒ keyed (accepted (word 3)))
+    ∷ (keyAt two (42 ∷ 1 ∷ []) 2 ⇒ keyed (refused INDEX 2))
+    ∷ (keyAt two (44 ∷ []) 0 ⇒ keyed (refused SHORT 44))
+    ∷ (keyAt (rows 8 (word modulus)) (0 ∷ []) 0 ⇒ keyed (refused ELEMENT 0))
+    ∷ (entryAt two (42 ∷ 1 ∷ []) 1 ⇒ enters (word 5) 34 1)
+    ∷ (entryAt two (42 ∷ 1 ∷ []) 2 ⇒ entered (refused INDEX 2))
+    ∷ (entryAt (rows 8 (word 5)) (0 ∷ []) 0 ⇒ entered (refused SHORT 32))
+    ∷ (entryAt (rows 8 (word 5) ++ (0 ∷ leBytes 8 (2 ^ 61))) (0 ∷ []) 0 ⇒ entered (refused OVERFLOW 32))
+    ∷ (entryAt (rows 8 (word 5) ++ (small 1 ∷ [])) (0 ∷ []) 0 ⇒ entered (refused SHORT 33))
+    ∷ (entryAt noElement (1 ∷ []) 0 ⇒ enters (word 5) 34 2)
+    -- places enough: no count; no entry; the count where it is less; one more than have room (with one place less, ROOM: above)
+    ∷ (places [] 0 ⇒ needed 0)
+    ∷ (places (small 0 ∷ []) 0 ⇒ needed 0)
+    ∷ (places two 0 ⇒ needed 2)
+    ∷ (places (small 1 ∷ []) 0 ⇒ needed 1)
+    ∷ (places (small 9 ∷ entry 5 0 [] ++ entry 6 0 []) 0 ⇒ needed 3)
+    ∷ (walk (small 9 ∷ entry 5 0 [] ++ entry 6 0 []) 0 (9 ∷ 9 ∷ []) ⇒ walked (refused ROOM 67) (0 ∷ 0 ∷ []))
+    ∷ (walk (small 9 ∷ entry 5 0 [] ++ entry 6 0 []) 0 (9 ∷ 9 ∷ 9 ∷ []) ⇒ walked (refused SHORT 67) (0 ∷ 0 ∷ 0 ∷ []))
     ∷ []
 
 pub answered : map (λ (x : Example). ask (x .question)) examples ≡ map (λ (x : Example). x .answer) examples
-unfolding firstMet _>>=_ le leBytes rows numbersOf numberAt countLength trailingZeros countValue counted isElement notElements fourAt wordAt wordOrder insert sorted sameKey seenKey keyOrder keyLess walkRules walkEnd keyOffsets mapRules walkOutcome keyTable halving elementRules foundRules foundOutcome lookupOutcome
+unfolding firstMet _>>=_ le leBytes rows numbersOf numberAt countLength trailingZeros countValue counted isElement notElements fourAt wordAt wordOrder insert sorted sameKey seenKey keyOrder keyLess walkRules walkEnd keyOffsets mapRules walkOutcome keyTable halving elementRules foundRules foundOutcome lookupOutcome wordRules keyRules keyOutcome mapEntryRules mapEntryOutcome placesNeeded
 answered = refl

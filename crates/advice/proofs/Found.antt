@@ -10,7 +10,7 @@ use lib.ListN.{length}
 use Rattle.wire.specs.Table.{Outcome, accepted, firstMet, _>>=_}
 use Rattle.wire.specs.Words.{wordRules}
 use Rattle.wire.proofs.Tables.{accepted-none}
-use Rattle.advice.specs.Inner.{mapEntryRules, valuesRules}
+use Rattle.advice.specs.Inner.{entryRules, valuesRules}
 use Rattle.advice.specs.Walk.{size, valuesAt, walkEnd, Walked, firstEntry, walkOutcome, keyTable, EntryOf}
 use Rattle.advice.specs.Lookup.{Halved, met, missing, halving, Looked, found, absent, elementRules, foundRules, foundOutcome, lookupOutcome}
 use Rattle.advice.proofs.Entries.{past-none, all-whole}
@@ -51,7 +51,7 @@ module _ (s : List ℕ) (at : ℕ) (t₀ : List ℕ) (w : Walked) (walked : walk
 
   -- where an entry has the key, the values' own rules decide
   pub entry-found : (from len : ℕ) → EntryOf s at (w .entries) key from len → (c : ℕ) × (answer ≡ firstMet (elementRules s from len) (found from len c))
-  unfolding foundOutcome foundRules mapEntryRules wordRules valuesRules _>>=_
+  unfolding foundOutcome foundRules entryRules wordRules valuesRules _>>=_
   entry-found from len e =
       let i = e .number in
       let q = lookup-present s at t₀ w walked key i (e .below) (e .has) in

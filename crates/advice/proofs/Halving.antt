@@ -4,10 +4,10 @@
 use mathlib.Core.Path.{_≡_, refl, sym, ap, _∙_}
 use mathlib.Core.Bool.{Bool, true, false}
 use mathlib.Core.List.{List, [], _∷_}
-use Prim.Native.Nat.{ℕ, zero, suc, _+_, _-_, _*_, _/_, _^_, _<_, _≤_}
+use Prim.Native.Nat.{ℕ, zero, suc, _+_, _-_, _*_, _/_, _%_, _^_, _<_, _≤_}
 use native.Mathlib.Decide.{ℕ-discrete}
 use native.Mathlib.Omega.{arith}
-use borrow.Author.Tests.{lt-ltb, le-ltb, ltb-false, ne-eqb, eqb-true, eqb-false}
+use borrow.Author.Tests.{lt-ltb, le-ltb, ltb-true, ltb-false, ne-eqb, eqb-true, eqb-false}
 use lib.Count.{leading-length}
 use lib.Dec.{ltb, eqb}
 use lib.ListN.{length, getD, take, drop}
@@ -21,10 +21,34 @@ use Rattle.wire.specs.declared.word.WordOrder.{WordOrder}
 use Rattle.wire.specs.declared.word.WordOrder.the-variants.{Below, Same, Above}
 use Rattle.wire.proofs.Stages.{in-turn, in-the-end, both-taken}
 use Rattle.wire.proofs.Tables.{accepted-none}
+use Rattle.wire.proofs.Numbers.{all-there}
+use Rattle.wire.proofs.Words.{four-at, word-whole, first-below, first-above}
 use Rattle.advice.specs.Walk.{size, valuesAt}
 use Rattle.advice.specs.Lookup.{Halved, met, missing, byOrder, halving, Looked, found, absent, elementRules, foundRules, foundOutcome, lookupOutcome, bitLength}
-use Rattle.advice.specs.Inner.{valuesRules, valuesOutcome, elementsOutcome}
+use Rattle.advice.specs.declared.lookup.Range.{Range}
+use Rattle.advice.specs.declared.lookup.Narrowed.the-variants.{To}
+use Rattle.advice.specs.Inner.{valuesRules, valuesOutcome, leftOutcome, Within, turned, Narrows, elementsOutcome}
 use Rattle.keys.proofs.Keys.{never}
+
+-- ---- the first elements of a key and of the one at a place decide where they differ
+
+below-unequal : (a b : ℕ) → b ≤ a → (a ≡ b → ⊥) → b < a
+below-unequal a b h d = elim (ℕ-discrete a b) [ yes e ↦ absurd (d e) | no k ↦ omega arith ]
+
+module _ (s : List ℕ) (at : ℕ) (whole : at + 32 ≤ length s) where
+  abbrev others : List ℕ
+  others = numberAt 8 s (at + 8) ∷ numberAt 8 s (at + 16) ∷ numberAt 8 s (at + 24) ∷ []
+
+  word-first : wordAt s at ≡ numberAt 8 s at ∷ others
+  word-first = word-whole s at (le-ltb (length s) (at + 32) whole) ∙ four-at s at whole
+
+  first-decides-below : (key : List ℕ) → 0 < length key → getD key 0 0 < numberAt 8 s at → Below ≡ wordOrder key (wordAt s at)
+  first-decides-below [] h l = absurd (omega arith)
+  first-decides-below (x ∷ rest) h l = rw word-first (sym (first-below x (numberAt 8 s at) rest others l))
+
+  first-decides-above : (key : List ℕ) → 0 < length key → numberAt 8 s at < getD key 0 0 → Above ≡ wordOrder key (wordAt s at)
+  first-decides-above [] h l = absurd (omega arith)
+  first-decides-above (x ∷ rest) h l = rw word-first (sym (first-above x (numberAt 8 s at) rest others l))
 
 -- ---- a turn of the halving
 
@@ -80,6 +104,53 @@ module _ (s t key : List ℕ) where
           → halving s t key (size - size / 2 - 1) (low + size / 2 + 1) (size - size / 2 - 1) (c + 1) ≡ halving s t key size low size c
       unfolding halving
       halved-above e = rw (one-try, nonzero, whole, e) (enough-tries (size - size / 2 - 1) (size - 1) (low + size / 2 + 1) (size - size / 2 - 1) (c + 1) (omega arith) (omega arith))
+
+-- ---- turns by the first elements alone
+
+pub select-most : (b : Bool) (x m : ℕ) → x ≡ pick b 0 m → x ≤ m
+select-most true x m e = omega arith
+select-most false x m e = omega arith
+
+module _ (r : Range) (some : 0 < r .size) where
+  -- one turn, as the code reckons it
+  pub turn-reckoned : (b : Bool) (x y : ℕ) → x ≡ pick b 0 (r .size / 2 + 1) → y ≡ pick b 0 (1 - r .size % 2)
+      → record { low = r .low + x; size = r .size / 2 - y; compared = r .compared + 1 } ≡ turned b r
+  turn-reckoned true x y e f =
+      let low : r .low + x ≡ r .low = omega arith in
+      let size : r .size / 2 - y ≡ r .size / 2 = omega arith in
+      rw (low, size)
+  turn-reckoned false x y e f =
+      let low : r .low + x ≡ r .low + r .size / 2 + 1 = omega arith in
+      let size : r .size / 2 - y ≡ r .size - r .size / 2 - 1 = omega arith in
+      rw (low, size)
+
+  turn-smaller : (b : Bool) → turned b r .size < r .size
+  turn-smaller true = omega arith
+  turn-smaller false = omega arith
+
+  turn-within : (b : Bool) (n : ℕ) → Within n r → Within n (turned b r)
+  turn-within true n h = (omega (arith, h .0), omega (arith, h .1))
+  turn-within false n h = (omega (arith, h .0), omega (arith, h .1))
+
+module _ (s t key : List ℕ) (some : 0 < length key) (r : Range) (left : 0 < r .size) where
+  abbrev first : ℕ
+  first = getD key 0 0
+
+  abbrev at : ℕ
+  at = middle s t key (r .low) (r .size)
+
+  turn-told : isShort s at 32 ≡ false → (b : Bool) → ltb first (numberAt 8 s at) ≡ b → (first ≡ numberAt 8 s at → ⊥) → leftOutcome s t key (turned b r) ≡ leftOutcome s t key r
+  turn-told w true e d =
+      let l : first < numberAt 8 s at = ltb-true first (numberAt 8 s at) e in
+      halved-below s t key (r .low) (r .size) (r .compared) left w (sym (first-decides-below s at (all-there 32 s at w) key some l))
+  turn-told w false e d =
+      let l : numberAt 8 s at < first = below-unequal first (numberAt 8 s at) (ltb-false first (numberAt 8 s at) e) d in
+      halved-above s t key (r .low) (r .size) (r .compared) left w (sym (first-decides-above s at (all-there 32 s at w) key some l))
+
+  pub turn-narrows : isShort s at 32 ≡ false → (f : ℕ) → f ≡ numberAt 8 s at → (first ≡ f → ⊥) → (q : Range) → q ≡ turned (ltb first f) r → Narrows s t key r (To q)
+  turn-narrows w f e d q k =
+      let law : leftOutcome s t key (turned (ltb first f) r) ≡ leftOutcome s t key r = turn-told w (ltb first f) (ap (ltb first) (sym e)) (λ h. d (h ∙ sym e)) in
+      rw k (turn-smaller r left (ltb first f), turn-within r left (ltb first f), law)
 
 -- ---- what an accepted halving ends with
 

@@ -1,8 +1,10 @@
 pub mod Entries
 pub mod Halving
 pub mod Accepts
+pub mod TableStages
 pub mod Risen
 pub mod Found
+pub mod TableLaws
 pub mod Answers
 pub mod Pieces
 pub mod Examples

@@ -221,13 +221,13 @@ module _ (s : List ℕ) (at : ℕ) (t₀ : List ℕ) (w : Walked) (taken : walkO
       let l : i < length (sorted (keyLess s) Offsets) = rw length-sorted (omega (arith, long)) in
       rw table-left (List·getD-append (sorted (keyLess s) Offsets) (drop (w .entries) t₀) 0 i l)
 
-  entry-of : (i : ℕ) → i < w .entries → (m : ℕ) × (m < w .entries) × (walkEnd s (firstEntry s at) m ≡ getD (keyTable s at t₀) i 0)
+  pub entry-of : (i : ℕ) → i < w .entries → (m : ℕ) × (m < w .entries) × (walkEnd s (firstEntry s at) m ≡ getD (keyTable s at t₀) i 0)
   entry-of i h =
       let p = sorted-places (keyLess s) Offsets i (omega (arith, long)) in
       let l : p .0 < w .entries = omega (arith, long, p .1) in
       (p .0, l, sym (offset-at s (firstEntry s at) (w .entries) (p .0) l) ∙ p .2 ∙ sym (table-at i h))
 
-  place-of : (m : ℕ) → m < w .entries → (i : ℕ) × (i < w .entries) × (getD (keyTable s at t₀) i 0 ≡ walkEnd s (firstEntry s at) m)
+  pub place-of : (m : ℕ) → m < w .entries → (i : ℕ) × (i < w .entries) × (getD (keyTable s at t₀) i 0 ≡ walkEnd s (firstEntry s at) m)
   place-of m h =
       let p = places-sorted (keyLess s) Offsets m (omega (arith, long)) in
       let l : p .0 < w .entries = omega (arith, long, p .1) in

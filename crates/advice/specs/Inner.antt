@@ -1,15 +1,16 @@
 -- What the private stages of walk and lookup answer: segments of the tables. No public promise cites this file.
-use Prim.Native.Nat.{ℕ, _+_, _*_, _≤_}
+use Prim.Native.Nat.{ℕ, _+_, _-_, _*_, _/_, _≤_, _<_}
+use mathlib.Core.Bool.{Bool}
 use mathlib.Core.Path.{_≡_}
 use mathlib.Core.List.{List, [], _∷_, _++_}
 use lib.ListN.{length, drop}
-use Rattle.wire.specs.Table.{Rule, rule, Outcome, refused, accepted, firstMet, checked, At}
+use Rattle.wire.specs.Table.{Rule, rule, Outcome, refused, accepted, pick, firstMet, checked, At}
 use Rattle.wire.specs.Refusals.{OVERFLOW, DUPLICATE, numberOf}
 use Rattle.wire.specs.Le.{shortRule, over}
 use Rattle.wire.specs.Counts.{counted, countRule}
 use Rattle.wire.specs.Words.{wordRules}
 use Rattle.advice.specs.Walk.{nextEntry, walkRules, walkEnd, keyOffsets, Walked, tableOf}
-use Rattle.advice.specs.Lookup.{Halved, met, missing, elementRules}
+use Rattle.advice.specs.Lookup.{Halved, met, missing, halving, elementRules}
 use Rattle.keys.specs.Sort.{firstDuplicate}
 use Rattle.keys.specs.declared.sort.Duplicate.{Duplicate}
 use Rattle.keys.specs.declared.sort.Duplicate.the-variants as repeat
@@ -18,8 +19,11 @@ use Rattle.advice.specs.declared.walk.Stop.the-variants as stop
 use Rattle.advice.specs.declared.walk.Filled.{Filled}
 use Rattle.advice.specs.declared.walk.ValuesRead.{ValuesRead}
 use Rattle.advice.specs.declared.walk.ValuesRead.the-variants as values
-use Rattle.advice.specs.declared.walk.MapEntryRead.{MapEntryRead}
-use Rattle.advice.specs.declared.walk.MapEntryRead.the-variants as entry
+use Rattle.advice.specs.declared.walk.EntryEnd.{EntryEnd}
+use Rattle.advice.specs.declared.walk.EntryEnd.the-variants as entry
+use Rattle.advice.specs.declared.lookup.Range.{Range}
+use Rattle.advice.specs.declared.lookup.Narrowed.{Narrowed}
+use Rattle.advice.specs.declared.lookup.Narrowed.the-variants as narrowed
 use Rattle.advice.specs.declared.lookup.Probe.{Probe}
 use Rattle.advice.specs.declared.lookup.Probe.the-variants as probe
 use Rattle.advice.specs.declared.lookup.Elements.{Elements}
@@ -37,11 +41,11 @@ unfoldable pub valuesOutcome : List ℕ → ℕ → Outcome (At ℕ)
 valuesOutcome s at = firstMet (valuesRules s at) (record { value = counted s at .value; next = at + counted s at .len })
 
 -- an entry, without ROOM and DUPLICATE: where the next one starts
-unfoldable pub mapEntryRules : List ℕ → ℕ → List Rule
-mapEntryRules s at = wordRules s at ++ valuesRules s (at + 32)
+unfoldable pub entryRules : List ℕ → ℕ → List Rule
+entryRules s at = wordRules s at ++ valuesRules s (at + 32)
 
-unfoldable pub mapEntryOutcome : List ℕ → ℕ → Outcome ℕ
-mapEntryOutcome s at = firstMet (mapEntryRules s at) (nextEntry s at)
+unfoldable pub entryEndOutcome : List ℕ → ℕ → Outcome ℕ
+entryEndOutcome s at = firstMet (entryRules s at) (nextEntry s at)
 
 -- n entries from a place on, and the table after them
 unfoldable pub entriesOutcome : ℕ → List ℕ → ℕ → ℕ → Outcome Walked
@@ -65,6 +69,29 @@ pub record FilledTo (s : List ℕ) (at n : ℕ) (t₀ t : List ℕ) (r : Filled)
   pub table : t ≡ keyOffsets s at (r .n) ++ drop (r .n) t₀
   pub said : entriesOutcome (length t₀) s at n ≡ unlessRepeat (firstDuplicate s (keyOffsets s at (r .n))) (stopShown (r .n) (r .stop))
 
+-- ---- the halving, from what is left on
+
+abbrev pub leftOutcome : List ℕ → List ℕ → List ℕ → Range → Outcome Halved
+leftOutcome s t key r = halving s t key (r .size) (r .low) (r .size) (r .compared)
+
+-- a range within n places, and no more keys compared than places dropped
+abbrev pub Within : ℕ → Range → Type 0
+Within n r = (r .low + r .size ≤ n) × (r .compared + r .size ≤ n)
+
+-- one turn: the range below its middle, or above it
+abbrev pub turned : Bool → Range → Range
+turned below r =
+    record {
+      low = pick below (r .low) (r .low + r .size / 2 + 1);
+      size = pick below (r .size / 2) (r .size - r .size / 2 - 1);
+      compared = r .compared + 1;
+    }
+
+-- a smaller range of which the same is said
+abbrev pub Narrows : List ℕ → List ℕ → List ℕ → Range → Narrowed → Type 0
+Narrows s t key r narrowed.Untold = Unit {0}
+Narrows s t key r (narrowed.To q) = (q .size < r .size) × ((n : ℕ) → Within n r → Within n q) × (leftOutcome s t key q ≡ leftOutcome s t key r)
+
 abbrev pub elementsOutcome : List ℕ → ℕ → ℕ → Outcome (Unit {0})
 elementsOutcome s at n = checked (elementRules s at n)
 
@@ -74,9 +101,9 @@ abbrev pub shownValues : ValuesRead → Outcome (At ℕ)
 shownValues (values.Whole at n) = accepted (record { value = n; next = at .0 })
 shownValues (values.Refused why at) = refused (numberOf why) (at .0)
 
-abbrev pub shownMapEntry : MapEntryRead → Outcome ℕ
-shownMapEntry (entry.Whole c) = accepted (c .at .0)
-shownMapEntry (entry.Refused why at) = refused (numberOf why) (at .0)
+abbrev pub shownEntryEnd : EntryEnd → Outcome ℕ
+shownEntryEnd (entry.Whole c) = accepted (c .at .0)
+shownEntryEnd (entry.Refused why at) = refused (numberOf why) (at .0)
 
 abbrev pub shownProbe : Probe → Outcome Halved
 shownProbe (probe.Met at compared) = accepted (met (at .0) compared)

@@ -1,4 +1,5 @@
 pub mod Walk
 pub mod Lookup
+pub mod Table
 pub mod Shown
 pub mod Inner

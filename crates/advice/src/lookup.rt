@@ -10,11 +10,15 @@ use wire::word::is_element;
 use wire::word::word_at;
 use wire::word::word_order;
 ghost use mathlib.Core.Path.{_≡_};
-ghost use Prim.Native.Nat.{_+_, _*_, _≤_};
+ghost use Prim.Native.Nat.{_+_, _-_, _*_, _^_, _≤_, _<_};
 ghost use lib.ListN.{length};
+ghost use Rattle.wire.specs.Table.{pick};
 ghost use Rattle.advice.specs.Lookup.{halving, met, foundOutcome, lookupOutcome, valuesPart};
 ghost use Rattle.advice.specs.Shown.{shownLookup};
-ghost use Rattle.advice.specs.Inner.{shownProbe, elementsOutcome, shownElements};
+ghost use Rattle.advice.specs.Inner.{Within, leftOutcome, turned, Narrows, shownProbe, elementsOutcome, shownElements};
+
+// Fewer keys than this are near: waiting for each costs less than a jump that is guessed wrong.
+const FEW: usize = 0x8000;
 
 // What is known of a key: where its values start and how many elements they are, or that it is absent; and how many keys
 // were compared. A refusal has its place as a plain number: with ROOM it is the n that was given, and no byte offset.
@@ -37,20 +41,99 @@ enum Probe {
     Refused(Refusal, ByteOffset),
 }
 
+// What a halving has left: a range of the table's places, by its first and their number, and the number of keys compared.
+struct Range {
+    low: usize,
+    size: usize,
+    compared: usize,
+}
+
+// What a turn leaves, or that the first elements do not tell.
+enum Narrowed {
+    To(Range),
+    Untold,
+}
+
 // Whether some values are all elements, or the place of the first that is none.
 enum Elements {
     All,
     Refused(Refusal, ByteOffset),
 }
 
-// The range from `low` on is halved: an equal key ends it, and the middle is dropped with one of the halves.
-fn halve(s: &[u8], keys: &[u64], n: usize, key: [u64; 4]) -> Probe
-    requires { ⌜ n ≤ length (now keys) ⌝ }
-    ensures { λ r. ⌜ shownProbe r ≡ halving (now (s .entry)) (now (keys .entry)) key n 0 n 0 ⌝ }
+fn select(first: bool, x: usize, y: usize) -> usize
+    ensures { λ r. ⌜ r ≡ pick first x y ⌝ }
 {
-    let mut low: usize = 0;
-    let mut size = n;
-    let mut compared: usize = 0;
+    if first {
+        return x;
+    }
+    y
+}
+
+// One turn of the halving: below the middle, or above it. Sums of what is selected, and not selected sums: these become
+// jumps, and half of them are guessed wrong.
+fn turn(range: Range, below: bool) -> Range
+    requires { ⌜ (0 < range .size) × (range .low + range .size < 2 ^ 64) × (range .compared < 2 ^ 64 - 1) ⌝ }
+    ensures { λ r. ⌜ r ≡ turned below range ⌝ }
+{
+    let half = range.size / 2;
+    let passed = select(below, 0, half + 1);
+    let fewer = select(below, 0, 1 - range.size % 2);
+    Range {
+        low: range.low + passed,
+        size: half - fewer,
+        compared: range.compared + 1,
+    }
+}
+
+// One turn by the first elements alone. A tie, or a key that is not all in the file, is left to the plain halving.
+fn turn_by_first(s: &[u8], keys: &[u64], range: Range, key: [u64; 4]) -> Narrowed
+    requires { ⌜ (0 < range .size) × Within (length (now keys)) range ⌝ }
+    ensures { λ r. ⌜ Narrows (now (s .entry)) (now (keys .entry)) key range r ⌝ }
+{
+    let at = ByteOffset(keys[range.low + range.size / 2] as usize);
+    if is_short(s, at, 32) {
+        return Narrowed::Untold;
+    }
+    let first = key[0];
+    let middle = u64_at(s, at);
+    if first == middle {
+        return Narrowed::Untold;
+    }
+    Narrowed::To(turn(range, first < middle))
+}
+
+// Turns by the first elements, as far as they tell.
+fn narrow(s: &[u8], keys: &[u64], n: usize, key: [u64; 4]) -> Range
+    requires { ⌜ n ≤ length (now keys) ⌝ }
+    ensures { λ r. ⌜ Within n r ⌝ }
+    ensures { λ r. ⌜ leftOutcome (now (s .entry)) (now (keys .entry)) key r ≡ halving (now (s .entry)) (now (keys .entry)) key n 0 n 0 ⌝ }
+{
+    let mut range = Range {
+        low: 0,
+        size: n,
+        compared: 0,
+    };
+    while 0 < range.size {
+        match turn_by_first(s, keys, range, key) {
+            Narrowed::Untold => {
+                return range;
+            }
+            Narrowed::To(narrower) => {
+                range = narrower;
+            }
+        }
+    }
+    range
+}
+
+// The range is halved: an equal key ends it, and the middle is dropped with one of the halves.
+fn halve_left(s: &[u8], keys: &[u64], range: Range, key: [u64; 4]) -> Probe
+    requires { ⌜ Within (length (now keys)) range ⌝ }
+    ensures { λ r. ⌜ shownProbe r ≡ leftOutcome (now (s .entry)) (now (keys .entry)) key range ⌝ }
+{
+    let mut low = range.low;
+    let mut size = range.size;
+    let mut compared = range.compared;
     while 0 < size {
         let half = size / 2;
         let at = ByteOffset(keys[low + half] as usize);
@@ -72,6 +155,23 @@ fn halve(s: &[u8], keys: &[u64], n: usize, key: [u64; 4]) -> Probe
         }
     }
     Probe::Missing(compared)
+}
+
+// The halving of the first n offsets. Few keys: without jumps first. Many, and far: a guessed jump reads ahead.
+fn halve(s: &[u8], keys: &[u64], n: usize, key: [u64; 4]) -> Probe
+    requires { ⌜ n ≤ length (now keys) ⌝ }
+    ensures { λ r. ⌜ shownProbe r ≡ halving (now (s .entry)) (now (keys .entry)) key n 0 n 0 ⌝ }
+{
+    if n < FEW {
+        let range = narrow(s, keys, n, key);
+        return halve_left(s, keys, range, key);
+    }
+    let range = Range {
+        low: 0,
+        size: n,
+        compared: 0,
+    };
+    halve_left(s, keys, range, key)
 }
 
 // Whether the n values from a place on are all elements.

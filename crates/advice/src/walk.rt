@@ -12,7 +12,7 @@ use wire::word::check_word;
 ghost use mathlib.Core.Path.{_≡_};
 ghost use lib.ListN.{length, replicate};
 ghost use Rattle.advice.specs.Walk.{walkOutcome, keyTable};
-ghost use Rattle.advice.specs.Inner.{valuesOutcome, shownValues, mapEntryOutcome, shownMapEntry, entriesOutcome, entriesTable, FilledTo};
+ghost use Rattle.advice.specs.Inner.{valuesOutcome, shownValues, entryEndOutcome, shownEntryEnd, entriesOutcome, entriesTable, FilledTo};
 ghost use Rattle.advice.specs.Shown.{shownWalk};
 
 // The greatest length whose values take at most 2^64 - 1 bytes.
@@ -31,7 +31,7 @@ pub(crate) enum ValuesRead {
 }
 
 // The place after an entry, or why there is none.
-enum MapEntryRead {
+enum EntryEnd {
     Whole(Cursor),
     Refused(Refusal, ByteOffset),
 }
@@ -69,16 +69,16 @@ pub(crate) fn read_values(s: &[u8], at: ByteOffset) -> ValuesRead
 }
 
 // The entry at a place: its key, its length, and room for its values.
-fn read_map_entry(s: &[u8], at: ByteOffset) -> MapEntryRead
-    ensures { λ r. ⌜ shownMapEntry r ≡ mapEntryOutcome (now (s .entry)) (at .0) ⌝ }
+fn read_map_entry(s: &[u8], at: ByteOffset) -> EntryEnd
+    ensures { λ r. ⌜ shownEntryEnd r ≡ entryEndOutcome (now (s .entry)) (at .0) ⌝ }
 {
     match check_word(s, at) {
-        WordCheck::Refused(why, place) => MapEntryRead::Refused(why, place),
+        WordCheck::Refused(why, place) => EntryEnd::Refused(why, place),
         WordCheck::Whole(next) => {
             let length = next.at;
             match read_values(s, length) {
-                ValuesRead::Refused(why, place) => MapEntryRead::Refused(why, place),
-                ValuesRead::Whole(values, len) => MapEntryRead::Whole(Cursor {
+                ValuesRead::Refused(why, place) => EntryEnd::Refused(why, place),
+                ValuesRead::Whole(values, len) => EntryEnd::Whole(Cursor {
                     at: ByteOffset(values.0 + 8 * len),
                 }),
             }
@@ -100,13 +100,13 @@ fn fill(s: &[u8], at: ByteOffset, n: usize, keys: &mut [u64]) -> Filled
             };
         }
         match read_map_entry(s, ByteOffset(from)) {
-            MapEntryRead::Refused(why, place) => {
+            EntryEnd::Refused(why, place) => {
                 return Filled {
                     n: i,
                     stop: Stop::Refused(why, place),
                 };
             }
-            MapEntryRead::Whole(next) => {
+            EntryEnd::Whole(next) => {
                 keys[i] = from as u64;
                 from = next.at.0;
                 i += 1;

@@ -1,3 +1,4 @@
 pub mod Sorted
 pub mod Keys
 pub mod Sort
+pub mod Claim

@@ -52,11 +52,19 @@ use Rattle.advice.specs.declared.lookup.MapLookup.{MapLookup}
 use Rattle.advice.proofs.walk.walk_map.Reads as walk-map
 use Rattle.advice.proofs.lookup.lookup.Reads as lookup-reads
 use Rattle.advice.proofs.lookup.values.Reads as values-reads
+use Rattle.advice.specs.Table.{keyOutcome, mapEntryOutcome, placesNeeded}
+use Rattle.advice.specs.declared.table.KeyRead.{KeyRead}
+use Rattle.advice.specs.declared.table.MapEntryRead.{MapEntryRead}
+use Rattle.advice.proofs.TableStages.{Keyed, Entered}
+use Rattle.advice.proofs.table.key_at.Reads as key-at
+use Rattle.advice.proofs.table.entry_at.Reads as entry-at
+use Rattle.advice.proofs.table.most_places.Reads as most-places
 use Rattle.writer.specs.Parts.{Parts}
 use Rattle.writer.specs.Writer.{writeOutcome, outputAfter}
 use Rattle.writer.specs.Shown.{shownWrite, lent}
 use Rattle.writer.specs.declared.file.ForestWrite.{ForestWrite}
 use Rattle.writer.proofs.file.write_forest.Reads as write-forest
+use Rattle.writer.proofs.file.write_forest_hinted.Reads as write-forest-hinted
 
 -- ---- entries
 
@@ -160,6 +168,25 @@ GivesPart s t n key b = b ≡ valuesPart s (lookupOutcome s t n key)
 pub gives-part : (κs : _) (a : _) (r : _) (e : _) → values-reads.Post κs a r e → GivesPart (now (a .0)) (now (a .1 .0)) (a .1 .1 .0) (a .1 .1 .1 .0) (now r)
 gives-part κs a r e p = p
 
+-- by place of a table t: the key there, the entry there; and k places are enough for the map
+abbrev pub ReadsKey : List ℕ → List ℕ → ℕ → KeyRead → Type 0
+ReadsKey s t i r = Keyed r (keyOutcome s t i)
+
+pub reads-key : (κs : _) (a : _) (r : _) (e : _) → key-at.Post κs a r e → ReadsKey (now (a .0)) (now (a .1 .0)) (a .1 .1 .0) r
+reads-key κs a r e p = p
+
+abbrev pub ReadsMapEntry : List ℕ → List ℕ → ℕ → MapEntryRead → Type 0
+ReadsMapEntry s t i r = Entered r (mapEntryOutcome s t i)
+
+pub reads-map-entry : (κs : _) (a : _) (r : _) (e : _) → entry-at.Post κs a r e → ReadsMapEntry (now (a .0)) (now (a .1 .0)) (a .1 .1 .0) r
+reads-map-entry κs a r e p = p
+
+abbrev pub NeedsPlaces : List ℕ → ℕ → ℕ → Type 0
+NeedsPlaces s at k = k ≡ placesNeeded s at
+
+pub needs-places : (κs : _) (a : _) (r : _) (e : _) → most-places.Post κs a r e → NeedsPlaces (now (a .0)) (a .1 .0 .0) r
+needs-places κs a r e p = p
+
 -- ---- the writer
 
 -- of facts f and parts p into the output o₀: the answer r, and the output o afterwards
@@ -170,3 +197,8 @@ pub record Writes (f : FormatFacts) (p : Parts) (o₀ o : List ℕ) (r : ForestW
 pub writes : (κs : _) (a : _) (r : _) (e : _) → write-forest.Post κs a r e
     → Writes (a .0) (lent (a .1 .0) (now (a .1 .1 .0)) (now (a .1 .1 .1 .0)) (now (a .1 .1 .1 .1 .0)) (now (a .1 .1 .1 .1 .1 .0)) (now (a .1 .1 .1 .1 .1 .1 .0)) (now (a .1 .1 .1 .1 .1 .1 .1 .0)) (now (a .1 .1 .1 .1 .1 .1 .1 .1 .0)) (now (a .1 .1 .1 .1 .1 .1 .1 .1 .1 .0))) (now (a .1 .1 .1 .1 .1 .1 .1 .1 .1 .1 .0)) (now (e .1 .1 .1 .1 .1 .1 .1 .1 .1 .1 .0)) r
 writes κs a r e p = record { answer = p .0; output = p .1 }
+
+-- and with a claim on the keys' order the same, whatever is claimed
+pub writes-hinted : (κs : _) (a : _) (r : _) (e : _) → write-forest-hinted.Post κs a r e
+    → Writes (a .0) (lent (a .1 .0) (now (a .1 .1 .0)) (now (a .1 .1 .1 .0)) (now (a .1 .1 .1 .1 .0)) (now (a .1 .1 .1 .1 .1 .0)) (now (a .1 .1 .1 .1 .1 .1 .0)) (now (a .1 .1 .1 .1 .1 .1 .1 .0)) (now (a .1 .1 .1 .1 .1 .1 .1 .1 .0)) (now (a .1 .1 .1 .1 .1 .1 .1 .1 .1 .0))) (now (a .1 .1 .1 .1 .1 .1 .1 .1 .1 .1 .1 .0)) (now (e .1 .1 .1 .1 .1 .1 .1 .1 .1 .1 .1 .0)) r
+writes-hinted κs a r e p = record { answer = p .0; output = p .1 }

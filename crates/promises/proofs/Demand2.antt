@@ -1,7 +1,7 @@
 -- Demand 2, its statements: what is so of an accepted file and of an accepted map, of entries, of the checks, and that there are accepted files.
 -- Each is proved by citing (Scan, Resolved, Checks, Advice, and the crates' own laws).
 -- Assumes nothing.
-use mathlib.Core.Path.{_≡_, sym, ap, _∙_}
+use mathlib.Core.Path.{_≡_, sym, _∙_}
 use mathlib.Core.Bool.{Bool, true, false}
 use mathlib.Core.List.{List, _++_}
 use mathlib.Core.Logic.{_⊎_, _↔_}
@@ -10,7 +10,7 @@ use lib.ListN.{length, getD}
 use Rattle.wire.specs.Table.{accepted, noneMet, FirstMet}
 use Rattle.wire.specs.Refusals.{ELEMENT, numberOf}
 use Rattle.wire.specs.declared.refusal.Refusal.{Refusal}
-use Rattle.wire.specs.declared.refusal.Refusal.the-variants.{RootId, Element}
+use Rattle.wire.specs.declared.refusal.Refusal.the-variants.{RootId, Element, Room}
 use Rattle.wire.specs.declared.units.ByteOffset.{ByteOffset}
 use Rattle.wire.specs.declared.units.Cursor.{Cursor}
 use Rattle.wire.proofs.Tables.{same-answer}
@@ -47,6 +47,8 @@ use Rattle.resolved.specs.declared.digests.DigestRead.{DigestRead}
 use Rattle.checks.specs.Checks.{ChildrenBelow, NeverFall, AsWritten}
 use Rattle.checks.specs.declared.NodeCheck.{NodeCheck}
 use Rattle.checks.specs.declared.NodeCheck.the-variants.{Holds}
+use Rattle.wire.specs.Words.{wordOrder}
+use Rattle.wire.specs.declared.word.WordOrder.the-variants.{Below}
 use Rattle.keys.specs.Keys.{seenKey}
 use Rattle.advice.specs.Walk.{shownKeys, walked, firstEntry, mapRules, keyTable, Risen, EntryOf}
 use Rattle.advice.specs.Lookup.{elementRules}
@@ -55,12 +57,15 @@ use Rattle.advice.specs.declared.walk.MapWalk.{MapWalk}
 use Rattle.advice.specs.declared.walk.MapWalk.the-variants as map
 use Rattle.advice.specs.declared.lookup.MapLookup.{MapLookup}
 use Rattle.advice.specs.declared.lookup.MapLookup.the-variants as look
+use Rattle.advice.specs.declared.table.KeyAnswer.the-variants as key
+use Rattle.advice.specs.declared.table.KeyRead.{KeyRead}
+use Rattle.advice.specs.declared.table.MapEntryAnswer.the-variants as entry
+use Rattle.advice.specs.declared.table.MapEntryRead.{MapEntryRead}
 use Rattle.advice.proofs.Answers.{walkBack, walk-again}
-use Rattle.advice.proofs.Risen.{walk-risen}
 use Rattle.writer.specs.Parts.{Parts, partsShown}
 use Rattle.renderings.specs.Rendering.{Lengths, renderedFile, Lengthened, Valid}
 use Rattle.renderings.proofs.Rendered.{rendering-accepted}
-use Rattle.promises.proofs.Calls.{Decodes, Encodes, Scans, ReadsNode, ReadsRoot, Builds, ByCounting, WithTable, ChecksChildren, ChecksOrder, ChecksStrict, Walks, LooksUp}
+use Rattle.promises.proofs.Calls.{Decodes, Encodes, Scans, ReadsNode, ReadsRoot, Builds, ByCounting, WithTable, ChecksChildren, ChecksOrder, ChecksStrict, Walks, LooksUp, ReadsKey, ReadsMapEntry, NeedsPlaces}
 use Rattle.promises.proofs.Scan as of-scan
 use Rattle.promises.proofs.Resolved as of-slots
 use Rattle.promises.proofs.Resolved.{ReadsDigest}
@@ -131,6 +136,16 @@ pub record Demand2Map (s : List ℕ) (at : ℕ) (t₀ t : List ℕ) (r : MapWalk
   pub present : (n : ℕ) (c : Cursor) → r ≡ map.Walked n c → (key : List ℕ) (x : MapLookup) → LooksUp s t n key x
       → (from len : ℕ) → EntryOf s at n key from len
       → (noneMet (elementRules s from len) → (k : ℕ) × (x ≡ look.Found (record { 0 = from }) len k)) × ((p : ℕ) → FirstMet (elementRules s from len) ELEMENT p → x ≡ look.Refused Element p)
+  -- each of the table's first n places gives a key, and an entry, that is one of the map's; each of the map's has its place; keys rise with their places
+  pub keys : (n : ℕ) (c : Cursor) → r ≡ map.Walked n c → (i : ℕ) → i < n → (x : KeyRead) → ReadsKey s t i x
+      → (x .answer ≡ key.Key) × ((from : ℕ) × ((len : ℕ) × EntryOf s at n (x .word) from len))
+  pub entries : (n : ℕ) (c : Cursor) → r ≡ map.Walked n c → (i : ℕ) → i < n → (x : MapEntryRead) → ReadsMapEntry s t i x
+      → (from : ByteOffset) × ((len : ℕ) × ((x .answer ≡ entry.Entry from len) × EntryOf s at n (x .word) (from .0) len))
+  pub placed : (n : ℕ) (c : Cursor) → r ≡ map.Walked n c → (key : List ℕ) (from len : ℕ) → EntryOf s at n key from len
+      → (i : ℕ) × ((i < n) × ((x : MapEntryRead) → ReadsMapEntry s t i x → x ≡ record { answer = entry.Entry (record { 0 = from }) len; word = key }))
+  pub rising : (n : ℕ) (c : Cursor) → r ≡ map.Walked n c → (i j : ℕ) (x y : KeyRead) → ReadsKey s t i x → ReadsKey s t j y → i < j → j < n → wordOrder (x .word) (y .word) ≡ Below
+  -- and whatever it answered: with k places or more it does not say ROOM, where k places are enough
+  pub room : (k : ℕ) → NeedsPlaces s at k → k ≤ length t₀ → (p : ByteOffset) → r ≡ map.Refused Room p → ⊥
 
 pub map-demanded : (s : List ℕ) (at : ℕ) (t₀ t : List ℕ) (r : MapWalk) → Walks s at t₀ t r → Demand2Map s at t₀ t r
 map-demanded s at t₀ t r promised =
@@ -138,10 +153,15 @@ map-demanded s at t₀ t r promised =
       accepts = of-map.accepts s at t₀ t r promised;
       refuses = of-map.refuses s at t₀ t r promised;
       table = promised .table;
-      rises = λ n c taken. rw (promised .table) (walk-risen s at t₀ (record { entries = n; end = c .at .0 }) (sym (promised .answer) ∙ ap shownWalk taken));
+      rises = of-map.keys-risen s at t₀ t r promised;
       absent = of-map.absent-if-none s at t₀ t r promised;
       found = of-map.found-values s at t₀ t r promised;
       present = of-map.entry-found s at t₀ t r promised;
+      keys = of-map.key-there s at t₀ t r promised;
+      entries = of-map.entry-there s at t₀ t r promised;
+      placed = of-map.entry-placed s at t₀ t r promised;
+      rising = of-map.keys-rise s at t₀ t r promised;
+      room = of-map.room-enough s at t₀ t r promised;
     }
 
 -- ---- the entries

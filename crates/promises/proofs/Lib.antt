@@ -13,7 +13,8 @@ pub mod OfAdvice
 pub mod OfWriter
 pub mod OfText
 pub mod OfWhole
-pub mod OfCapi
+pub mod OfCrossing
+pub mod OfVekalumist
 pub mod OfPage
 pub mod Scan
 pub mod Resolved

@@ -25,7 +25,8 @@ use Rattle.promises.proofs.OfView.{View, view}
 use Rattle.promises.proofs.OfKeys.{Keys, keys}
 use Rattle.promises.proofs.OfAdvice.{Advice, advice}
 use Rattle.promises.proofs.OfWriter.{Writer, writer}
-use Rattle.promises.proofs.OfCapi.{Capi, capi}
+use Rattle.promises.proofs.OfCrossing.{Crossing, crossing}
+use Rattle.promises.proofs.OfVekalumist.{Vekalumist, vekalumist}
 use Rattle.promises.proofs.OfText.{Text, text}
 use Rattle.promises.proofs.OfWhole.{Whole, whole}
 use Rattle.promises.proofs.OfPage.{Page, page}
@@ -34,8 +35,8 @@ use Rattle.promises.proofs.Demand3.{Accepts, Demand3, shortest-demanded
 
 -- 1. Each public function answers whatever it is given: that it does is its own proof, and here it is seen that it asks nothing of its caller, that
 -- one answer, or one refusal with its number and place, is allowed, and what a refusal leaves in lent memory.
-pub demand-1 : Wire × Info × Rows × Layout × Resolved × Checks × View × Keys × Advice × Whole × Writer × Text × Page × Capi
-demand-1 = (wire, info, rows, layout, resolved, checks, view, keys, advice, whole, writer, text, page, capi)
+pub demand-1 : Wire × Info × Rows × Layout × Resolved × Checks × View × Keys × Advice × Whole × Writer × Text × Page × Crossing × Vekalumist
+demand-1 = (wire, info, rows, layout, resolved, checks, view, keys, advice, whole, writer, text, page, crossing, vekalumist)
 
 -- 2. The scan accepts a file, and the walk its map, exactly if the rules hold; every refusal is the first listed whose case is met; the sections of an
 -- accepted file lie end to end, each node's slot is the number of earlier nodes of its kind (External or not), below its section's count, and what

@@ -10,10 +10,13 @@ use Rattle.wire.proofs.Tables.{same-answer}
 use Rattle.advice.specs.Walk.{firstEntry, tableOf, keyTable}
 use Rattle.advice.specs.Shown.{shownWalk, shownLookup}
 use Rattle.advice.specs.declared.walk.MapWalk.the-variants as map
-use Rattle.advice.proofs.Answers.{walkBack, walk-again, lookupBack, lookup-again}
+use Rattle.advice.proofs.Answers.{walkBack, walk-again, lookupBack, lookup-again, key-one, entry-one}
 use Rattle.advice.proofs.walk.walk_map.Reads as walk-map
 use Rattle.advice.proofs.lookup.lookup.Reads as lookup
 use Rattle.advice.proofs.lookup.values.Reads as values
+use Rattle.advice.proofs.table.key_at.Reads as key-at
+use Rattle.advice.proofs.table.entry_at.Reads as entry-at
+use Rattle.advice.proofs.table.most_places.Reads as most-places
 use Rattle.promises.proofs.Terms.{AsksNothing, Answers, answers, Leaves}
 
 pub record Advice : Type 0 where
@@ -25,6 +28,9 @@ pub record Advice : Type 0 where
   -- the part's contents; where in memory an empty part starts is not promised
   pub values-asks : AsksNothing values.Pre
   pub values-one : (κs : _) (a : _) (r r′ : _) (e e′ : _) → values.Post κs a r e → values.Post κs a r′ e′ → now r ≡ now r′
+  pub key-at-answers : Answers key-at.Pre key-at.Post
+  pub entry-at-answers : Answers entry-at.Pre entry-at.Post
+  pub most-places-answers : Answers most-places.Pre most-places.Post
 
 pub advice : Advice
 unfolding keyTable
@@ -36,4 +42,7 @@ advice =
       lookup-answers = answers (λ κs a. tt) (λ κs a r r′ e e′ p p′. same-answer shownLookup lookupBack lookup-again _ r r′ p p′);
       values-asks = λ κs a. tt;
       values-one = λ κs a r r′ e e′ p p′. p ∙ sym p′;
+      key-at-answers = answers (λ κs a. tt) (λ κs a r r′ e e′ p p′. key-one _ r r′ p p′);
+      entry-at-answers = answers (λ κs a. tt) (λ κs a r r′ e e′ p p′. entry-one _ r r′ p p′);
+      most-places-answers = answers (λ κs a. tt) (λ κs a r r′ e e′ p p′. p ∙ sym p′);
     }

@@ -10,6 +10,7 @@ use Rattle.rows.proofs.row_entry.Reads as row-entry
 use Rattle.rows.proofs.external_one.Reads as external-one
 use Rattle.rows.proofs.read_each.Reads as read-each
 use Rattle.rows.proofs.read_entries.Reads as read-entries
+use Rattle.rows.proofs.read_words.Reads as read-words
 use Rattle.promises.proofs.Terms.{Answers, answers}
 
 pub record Rows : Type 0 where
@@ -18,6 +19,7 @@ pub record Rows : Type 0 where
   pub external-one-answers : Answers external-one.Pre external-one.Post
   pub read-each-answers : Answers read-each.Pre read-each.Post
   pub read-entries-answers : Answers read-entries.Pre read-entries.Post
+  pub read-words-answers : Answers read-words.Pre read-words.Post
 
 pub rows : Rows
 rows =
@@ -27,4 +29,5 @@ rows =
       external-one-answers = answers (λ κs a. tt) (λ κs a r r′ e e′ p p′. p ∙ sym p′);
       read-each-answers = answers (λ κs a. tt) (λ κs a r r′ e e′ p p′. same-answer shownPass passBack pass-again _ r r′ p p′);
       read-entries-answers = answers (λ κs a. tt) (λ κs a r r′ e e′ p p′. same-answer shownPass passBack pass-again _ r r′ p p′);
+      read-words-answers = answers (λ κs a. tt) (λ κs a r r′ e e′ p p′. same-answer shownPass passBack pass-again _ r r′ p p′);
     }

@@ -25,8 +25,8 @@ abbrev pub answers : {K : Type 0} {A R E : K → Type 0} {Pre : (κs : K) → A 
 answers asks one = record { asks = asks; one = one }
 
 -- what lent memory holds at exit is one
-abbrev pub Leaves : {K : Type 0} {A R E : K → Type 0} → ((κs : K) → A κs → R κs → E κs → Type 0) → ((κs : K) → E κs → List ℕ) → Type 0
-Leaves {K} {A} {R} {E} Post held = (κs : K) (a : A κs) (r r′ : R κs) (e e′ : E κs) → Post κs a r e → Post κs a r′ e′ → held κs e ≡ held κs e′
+abbrev pub Leaves : {K : Type 0} {A R E : K → Type 0} {B : Type 0} → ((κs : K) → A κs → R κs → E κs → Type 0) → ((κs : K) → E κs → B) → Type 0
+Leaves {K} {A} {R} {E} {B} Post held = (κs : K) (a : A κs) (r r′ : R κs) (e e′ : E κs) → Post κs a r e → Post κs a r′ e′ → held κs e ≡ held κs e′
 
 -- one test decides both: refused, what was there stays
 pub stays : {A : Type 0} (b : Bool) (n p q m : ℕ) (z : A) (x y : List ℕ) → refused n p ≡ pick b (refused q m) (accepted z) → pick b x y ≡ x

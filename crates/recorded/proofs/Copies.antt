@@ -7,7 +7,7 @@ use Prim.Native.Nat.{ℕ, _+_, _-_, _≤_, _<_, min}
 use native.Mathlib.Omega.{arith}
 use native.Mathlib.Numerals.{add-one}
 use lib.ListN.{length, getD, take, drop, set, length-drop, length-set, take-append-drop, drop-of-length-le}
-use lib.Seq.{length-take-le, take-suc, take-suc-set, take-all, take-length, drop-cons, drop-drop}
+use lib.Seq.{length-take-le, take-suc, take-suc-set, take-all, take-length, drop-cons}
 use Rattle.wire.proofs.Counts.{lt-or-ge}
 use Rattle.io.specs.Counts.{Counts}
 use Rattle.recorded.specs.Calls.{between}
@@ -52,17 +52,17 @@ starts-count n l copy c h =
     let e : length (take n l) ≡ n = sym (c .1) in
     ((rw e at (h .room), rw e at (h .long)), rw e at (h .is))
 
--- a list is its first number, as many as another list has, and the rest
-pub three-parts : (x : ℕ) (a b l : List ℕ) → length a < length l → getD l 0 0 ≡ x → a ≡ take (length a + 1 - 1) (drop 1 l) →
-    b ≡ take (length l - (length a + 1)) (drop (length a + 1) l) → l ≡ x ∷ (a ++ b)
-three-parts x a b l h e p q =
-    let n : length a + 1 - 1 ≡ length a = omega arith in
-    let m : 1 + length a ≡ length a + 1 = omega arith in
-    let last : b ≡ drop (length a + 1) l = q ∙ take-all (length l - (length a + 1)) (drop (length a + 1) l) (rw (length-drop (length a + 1) l) (omega arith)) in
-    let rest : drop 1 l ≡ a ++ b =
-    sym (take-append-drop (length a) (drop 1 l)) ∙ ap (λ (z : List ℕ). z ++ drop (length a) (drop 1 l)) (sym (rw n at p)) ∙ ap (λ (z : List ℕ). a ++ z) (drop-drop (length a) 1 l ∙ rw m (sym last))
-    in
-    drop-cons l 0 0 (omega arith) ∙ rw (e, rest)
+-- a list is two parts
+pub two-parts : (a b l : List ℕ) → a ≡ take (length a) l → b ≡ take (length l - length a) (drop (length a) l) → l ≡ a ++ b
+two-parts a b l p q =
+    let last : b ≡ drop (length a) l = q ∙ take-all (length l - length a) (drop (length a) l) (rw (length-drop (length a) l) (omega arith)) in
+    sym (take-append-drop (length a) l) ∙ ap (λ (z : List ℕ). z ++ drop (length a) l) (sym p) ∙ ap (λ (z : List ℕ). a ++ z) (sym last)
+
+-- a list is its first two numbers and the rest
+pub two-then : (x y : ℕ) (b l : List ℕ) → 2 ≤ length l → getD l 0 0 ≡ x → getD l 1 0 ≡ y → take (length l - 2) (drop 2 l) ≡ b → l ≡ x ∷ y ∷ b
+two-then x y b l h e f p =
+    let rest : drop 2 l ≡ b = sym (take-all (length l - 2) (drop 2 l) (rw (length-drop 2 l) (omega arith))) ∙ p in
+    drop-cons l 0 0 (omega arith) ∙ rw (e, drop-cons l 1 0 (omega arith), f, rest)
 
 -- what is between two places, where these are first brought inside
 module _ (from to : ℕ) (l : List ℕ) where

@@ -1,10 +1,11 @@
 // A line that is a case, over a file.
-use crate::given::first_agrees;
-use crate::given::index_agrees;
-use crate::given::map_agrees;
+use crate::digests::digest_agrees;
+use crate::digests::slots_agree;
+use crate::files::file_agrees;
+use crate::map::map_agrees;
+use crate::numbers::numbers_agree;
 use crate::reading::cut;
 use crate::reading::numbers_of;
-use crate::slots::slots_agree;
 use crate::written::bytes_agree;
 ghost use mathlib.Core.Path.{_≡_};
 ghost use mathlib.Core.Bool.{true};
@@ -18,11 +19,12 @@ fn call_agrees(call: u64, s: &[u8], a: &[u64], lent: &mut [u64], row: &[u64]) ->
     ensures { λ r. ⌜ (r ≡ true → now (row .entry) ≡ callRow call (now (s .entry)) (now (a .entry)) (now (lent .entry))) ⌝ }
 {
     match call {
-        1..=5 => first_agrees(call, s, a, lent, row),
-        6..=11 => index_agrees(call, s, a, lent, row),
+        1..=4 | 23 => numbers_agree(call, s, a, lent, row),
+        5..=10 | 19 => file_agrees(call, s, a, lent, row),
+        11 => digest_agrees(s, a, lent, row),
         12 | 13 => slots_agree(call, s, a, lent, row),
         14 | 18 => bytes_agree(call, s, a, lent, row),
-        15..=17 => map_agrees(call, s, a, lent, row),
+        15..=17 | 20..=22 => map_agrees(call, s, a, lent, row),
         _ => false,
     }
 }

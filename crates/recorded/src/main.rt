@@ -9,11 +9,14 @@
 use libc::STDIN_FILENO;
 use libc::STDOUT_FILENO;
 
+mod arrays;
 mod case;
-mod given;
+mod digests;
+mod files;
 mod lists;
+mod map;
+mod numbers;
 mod reading;
-mod slots;
 mod tally;
 mod told;
 mod written;

@@ -4,52 +4,92 @@ use crate::lists::from_slots;
 use crate::lists::same_numbers;
 ghost use mathlib.Core.Path.{_≡_};
 ghost use mathlib.Core.Bool.{true};
-ghost use mathlib.Core.List.{_∷_, _++_};
-ghost use Rattle.recorded.specs.Calls.{blank as blankRow};
+ghost use mathlib.Core.List.{[], _∷_, _++_};
 
-// The answer's places before a call: what a call does not store is seen.
-pub(crate) fn blank() -> [u64; 12]
-    ensures { λ r. ⌜ r ≡ blankRow ⌝ }
+// Whether a row is the number that a call returned, and nothing else.
+pub(crate) fn is_number(returned: u64, row: &[u64]) -> bool
+    ensures { λ r. ⌜ (r ≡ true → now (row .entry) ≡ returned ∷ []) ⌝ }
 {
-    [901, 902, 903, 904, 905, 906, 907, 908, 909, 910, 911, 912]
+    let alone = [returned];
+    same_numbers(row, &alone)
 }
 
-// Whether a recorded row is the number that a call returned, its answer's places, and the lent memory.
-pub(crate) fn is_told(returned: u64, answer: &[u64], lent: &[u64], row: &[u64]) -> bool
-    ensures { λ r. ⌜ (r ≡ true → now (row .entry) ≡ returned ∷ (now (answer .entry) ++ now (lent .entry))) ⌝ }
+// Whether a list is another and a third after it.
+fn is_joined(a: &[u64], b: &[u64], l: &[u64]) -> bool
+    ensures { λ r. ⌜ (r ≡ true → now (l .entry) ≡ now (a .entry) ++ now (b .entry)) ⌝ }
 {
-    let n = answer.len();
-    if row.len() <= n {
+    let n = a.len();
+    if l.len() < n {
+        return false;
+    }
+    if same_numbers(a, &l[..n]) {
+        return same_numbers(b, &l[n..]);
+    }
+    false
+}
+
+// Whether a row is the number that a check returned, its place, and the lent memory.
+pub(crate) fn is_told_check(returned: u64, place: u64, lent: &[u64], row: &[u64]) -> bool
+    ensures { λ r. ⌜ (r ≡ true → now (row .entry) ≡ returned ∷ place ∷ now (lent .entry)) ⌝ }
+{
+    if row.len() < 2 {
         return false;
     }
     if row[0] != returned {
         return false;
     }
-    let end = n + 1;
-    if same_numbers(answer, &row[1..end]) {
-        return same_numbers(lent, &row[end..]);
+    if row[1] != place {
+        return false;
     }
-    false
+    same_numbers(lent, &row[2..])
 }
 
-pub(crate) fn is_told_bytes(returned: u64, answer: &[u64], lent: &[u8], row: &[u64]) -> bool
-    ensures { λ r. ⌜ (r ≡ true → now (row .entry) ≡ returned ∷ (now (answer .entry) ++ now (lent .entry))) ⌝ }
+// The same with the numbers of an answer before the lent memory.
+pub(crate) fn is_told(returned: u64, place: u64, answer: &[u64], lent: &[u64], row: &[u64]) -> bool
+    ensures { λ r. ⌜ (r ≡ true → now (row .entry) ≡ returned ∷ place ∷ (now (answer .entry) ++ now (lent .entry))) ⌝ }
+{
+    if row.len() < 2 {
+        return false;
+    }
+    if row[0] != returned {
+        return false;
+    }
+    if row[1] != place {
+        return false;
+    }
+    is_joined(answer, lent, &row[2..])
+}
+
+pub(crate) fn is_told_bytes(
+    returned: u64,
+    place: u64,
+    answer: &[u64],
+    lent: &[u8],
+    row: &[u64],
+) -> bool
+    ensures { λ r. ⌜ (r ≡ true → now (row .entry) ≡ returned ∷ place ∷ (now (answer .entry) ++ now (lent .entry))) ⌝ }
 {
     let mut wide = [0u64; 4096];
     if from_bytes(lent, &mut wide) {
         let n = lent.len();
-        return is_told(returned, answer, &wide[..n], row);
+        return is_told(returned, place, answer, &wide[..n], row);
     }
     false
 }
 
-pub(crate) fn is_told_slots(returned: u64, answer: &[u64], lent: &[u32], row: &[u64]) -> bool
-    ensures { λ r. ⌜ (r ≡ true → now (row .entry) ≡ returned ∷ (now (answer .entry) ++ now (lent .entry))) ⌝ }
+pub(crate) fn is_told_slots(
+    returned: u64,
+    place: u64,
+    answer: &[u64],
+    lent: &[u32],
+    row: &[u64],
+) -> bool
+    ensures { λ r. ⌜ (r ≡ true → now (row .entry) ≡ returned ∷ place ∷ (now (answer .entry) ++ now (lent .entry))) ⌝ }
 {
     let mut wide = [0u64; 4096];
     if from_slots(lent, &mut wide) {
         let n = lent.len();
-        return is_told(returned, answer, &wide[..n], row);
+        return is_told(returned, place, answer, &wide[..n], row);
     }
     false
 }

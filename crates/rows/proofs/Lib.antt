@@ -1,4 +1,5 @@
 pub mod RowLaws
 pub mod Pass
 pub mod Quick
+pub mod Pairs
 pub mod Answers

@@ -92,3 +92,16 @@ pub inside-row : (s : List ℕ) (first i n : ℕ) → first + 8 * n ≤ length s
 unfolding rowOutcome rowRules firstMet decodeOutcome
 inside-row s first i n inside fits h =
     rw (le-ltb (2 ^ 64 - 1) (first + 8 * i + 8) (omega arith), le-ltb (length s) (first + 8 * i + 8) (omega arith))
+
+-- ---- a word, decoded without its number
+
+module _ (i w : ℕ) where
+  pub word-read : (e : MastNodeEntry) → decodeOutcome 0 w ≡ accepted e → decodeOutcome i w ≡ accepted e
+  unfolding decodeOutcome decodeRules
+  word-read e q =
+      replaced-accepted i (decodeRules 0 w) (entryOf w) e (entryOf w) q
+      ∙ ap (λ (x : MastNodeEntry). accepted x) (accepted-none (decodeRules 0 w) (entryOf w) e q .1)
+
+  pub word-refused : (n z : ℕ) → decodeOutcome 0 w ≡ refused n z → decodeOutcome i w ≡ refused n i
+  unfolding decodeOutcome decodeRules
+  word-refused n z q = replaced-refused i (decodeRules 0 w) (entryOf w) (entryOf w) n z q

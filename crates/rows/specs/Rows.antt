@@ -1,13 +1,14 @@
 -- Rows of a section by their number, and the pass over the nodes.
-use Prim.Native.Nat.{ℕ, zero, suc, _+_, _*_, _≤_}
+use Prim.Native.Nat.{ℕ, zero, suc, _+_, _*_, _/_, _%_, _^_, _<_, _≤_}
 use mathlib.Core.Path.{_≡_}
 use mathlib.Core.Bool.{Bool}
 use mathlib.Core.List.{List, _∷_}
+use lib.ListN.{getD}
 use Rattle.wire.specs.Table.{Rule, rule, Outcome, accepted, pick, firstMet, _>>=_}
 use Rattle.wire.specs.Refusals.{SHORT, OVERFLOW}
 use Rattle.wire.specs.Le.{leAt, isShort, over}
 use Rattle.info.specs.Node.{isExternal}
-use Rattle.info.specs.Entry.{entryOf, decodeRules}
+use Rattle.info.specs.Entry.{entryOf, decodeRules, decodeOutcome}
 use Rattle.info.specs.declared.MastNodeEntry.{MastNodeEntry}
 use Rattle.rows.specs.declared.RowPlace.{RowPlace}
 use Rattle.rows.specs.declared.RowPlace.the-variants.{At, Over}
@@ -39,6 +40,10 @@ rowRules s first i =
 unfoldable pub rowOutcome : List ℕ → ℕ → ℕ → Outcome MastNodeEntry
 rowOutcome s first i = firstMet (rowRules s first i) (entryOf (rowWord s first i))
 
+-- the same of words that no file holds yet
+abbrev pub wordRead : List ℕ → ℕ → Outcome MastNodeEntry
+wordRead words i = decodeOutcome i (getD words i 0)
+
 -- ---- the nodes from first to last, where `read i` is what row i says
 
 -- One node: an entry refusal stands; else the entry is judged. `judge` is given the node, what the nodes before it handed on, and the entry.
@@ -66,7 +71,22 @@ entryPass read n = nodePass read countExternal 0 n
 abbrev pub Begun : (ℕ → Outcome MastNodeEntry) → ℕ → ℕ → Type 0
 Begun read i externals = (externals ≤ i) × (entryPass read i ≡ accepted externals)
 
--- what a survey says of the rows from one to another: so many more externals, or nothing
+-- the rows from one to another have entries, and so many of them are External
+abbrev pub Onward : (ℕ → Outcome MastNodeEntry) → ℕ → ℕ → ℕ → Type 0
+Onward read from to more = (before : ℕ) → Begun read from before → Begun read to (before + more)
+
+-- what a survey says of the rows from one to another
 abbrev pub Sound : Survey → (ℕ → Outcome MastNodeEntry) → ℕ → ℕ → Type 0
-Sound (Clean more) read from to = (before : ℕ) → Begun read from before → Begun read to (before + more)
+Sound (Clean more) read from to = Onward read from to more
 Sound Doubtful read from to = Unit {0}
+
+-- where the upper half of a word has a tag of 2 to 5, no bit of the payload lies there
+abbrev pub Narrow : ℕ → Type 0
+Narrow half = 2 * 2 ^ 28 ≤ half → half < 6 * 2 ^ 28 → half % 2 ^ 28 ≡ 0
+
+-- two numbers of 32 bits side by side, and that a bit is set in neither
+abbrev pub beside : ℕ → ℕ → ℕ
+beside low high = high * 2 ^ 32 + low
+
+abbrev pub Clear : ℕ → ℕ → Type 0
+Clear k pair = (pair / 2 ^ k % 2 ≡ 0) × (pair / 2 ^ (k + 32) % 2 ≡ 0)

@@ -1,17 +1,20 @@
 // Rows of a section by their number: where a row lies, the entry in a row, and the pass over all
-// entries. The pass is quick where nothing is wrong: strips of rows are surveyed without a branch, and
-// the plain loop goes on from the first strip in doubt, so a doubt costs time and never truth.
+// entries, of a file or of words. The pass is quick where nothing is wrong: strips of rows are surveyed
+// without a branch, and the plain loop goes on from the first strip in doubt, so a doubt costs time and
+// never truth.
+use info::Decoded;
 use info::EntryRead;
 use info::MastNodeEntry;
+use info::decode_entry;
 use info::node::is_external;
 use info::read_entry;
 use wire::refusal::Refusal;
 use wire::units::ByteOffset;
 ghost use mathlib.Core.Path.{_≡_};
-ghost use Prim.Native.Nat.{_+_, _*_, _/_, _^_, _<_, _≤_};
+ghost use Prim.Native.Nat.{_+_, _*_, _/_, _%_, _^_, _<_, _≤_};
 ghost use lib.ListN.{length};
 ghost use Rattle.wire.specs.Le.{leAt};
-ghost use Rattle.rows.specs.Rows.{rowPlace, rowOutcome, externalOne, entryPass, Begun, Sound};
+ghost use Rattle.rows.specs.Rows.{rowPlace, rowOutcome, wordRead, externalOne, entryPass, Begun, Sound, Narrow, beside, Clear};
 ghost use Rattle.rows.specs.Shown.{shownRow, shownPass};
 
 const MAX: usize = 0xFFFF_FFFF_FFFF_FFFF;
@@ -236,4 +239,113 @@ pub fn read_entries(s: &[u8], first: ByteOffset, n: usize) -> EntryPass
         }
     }
     read_each(s, first, n)
+}
+
+// The upper halves of two words side by side.
+fn side_by_side(low: u64, high: u64) -> u64
+    ensures { λ r. ⌜ r ≡ beside (low / 2 ^ 32) (high / 2 ^ 32) ⌝ }
+{
+    high / 0x1_0000_0000 * 0x1_0000_0000 + low / 0x1_0000_0000
+}
+
+// Half of each. What is left free above it takes the carry of a sum.
+fn halved(pair: u64) -> u64
+    ensures { λ r. ⌜ r ≡ beside (pair % 2 ^ 32 / 2) (pair / 2 ^ 32 / 2) ⌝ }
+{
+    (pair / 2) & 0x7FFF_FFFF_7FFF_FFFF
+}
+
+// The top bit of each.
+fn top_bits(pair: u64) -> u64
+    ensures { λ r. ⌜ r ≡ beside (pair % 2 ^ 32 / 2 ^ 31) (pair / 2 ^ 32 / 2 ^ 31) ⌝ }
+{
+    (pair / 0x8000_0000) & 0x1_0000_0001
+}
+
+// Bit 29 of each is set where the tag is 2 to 5 and the payload is wide: the first sum has it for these tags and no other below 9,
+// the second for these payloads. Sums, since the vectors of x86-64 have no comparison of unsigned numbers.
+fn wide_marks(pair: u64, halves: u64) -> u64
+    requires { ⌜ halves ≡ beside (pair % 2 ^ 32 / 2) (pair / 2 ^ 32 / 2) ⌝ }
+    ensures { λ r. ⌜ (Clear 29 r → Narrow (pair % 2 ^ 32) × Narrow (pair / 2 ^ 32)) ⌝ }
+{
+    (halves + 0x1000_0000_1000_0000) & ((pair & 0x0FFF_FFFF_0FFF_FFFF) + 0x1FFF_FFFF_1FFF_FFFF)
+}
+
+// Bit 31 of each is set where the tag is above 8.
+fn high_marks(pair: u64, halves: u64) -> u64
+    requires { ⌜ halves ≡ beside (pair % 2 ^ 32 / 2) (pair / 2 ^ 32 / 2) ⌝ }
+    ensures { λ r. ⌜ (Clear 31 r → (pair % 2 ^ 32 < 9 * 2 ^ 28) × (pair / 2 ^ 32 < 9 * 2 ^ 28)) ⌝ }
+{
+    halves + 0x3800_0000_3800_0000
+}
+
+// A strip of 2 n words, as `survey_rows`; the words of its two halves go by in pairs, so that four fill a vector.
+fn survey_words(words: &[u64], from: usize, n: usize) -> Survey
+    requires { ⌜ (n ≤ 2048) × (from + n + n ≤ length (now words)) ⌝ }
+    ensures { λ r. ⌜ Sound r (wordRead (now (words .entry))) from (from + n + n) ⌝ }
+{
+    let mut externals: u64 = 0;
+    let mut wides: u64 = 0;
+    let mut highs: u64 = 0;
+    for i in 0..n {
+        let pair = side_by_side(words[from + i], words[from + n + i]);
+        let halves = halved(pair);
+        externals += top_bits(pair);
+        wides = wides | wide_marks(pair, halves);
+        highs = highs | high_marks(pair, halves);
+    }
+    if wides / 0x2000_0000 % 2 == 0 {
+        if wides / 0x2000_0000_0000_0000 % 2 == 0 {
+            if highs / 0x8000_0000 % 2 == 0 {
+                if highs / 0x8000_0000_0000_0000 % 2 == 0 {
+                    return Survey::Clean(
+                        (externals % 0x1_0000_0000 + externals / 0x1_0000_0000) as u32,
+                    );
+                }
+            }
+        }
+    }
+    Survey::Doubtful
+}
+
+// The plain pass over words, from number `from` on, after `before` externals.
+fn read_words_from(words: &[u64], from: usize, before: usize) -> EntryPass
+    requires { ⌜ (from ≤ length (now words)) × Begun (wordRead (now words)) from before ⌝ }
+    ensures { λ r. ⌜ shownPass r ≡ entryPass (wordRead (now (words .entry))) (length (now (words .entry))) ⌝ }
+{
+    let mut externals = before;
+    let mut i = from;
+    while i < words.len() {
+        match decode_entry(words[i]) {
+            Decoded::Entry(entry) => {
+                externals += external_one(entry);
+            }
+            Decoded::Refused(why, _) => {
+                return EntryPass::Refused(why, i);
+            }
+        }
+        i += 1;
+    }
+    EntryPass::Clean(externals)
+}
+
+// The entries of all words from first to last: strip by strip, and plainly the last of an odd number or from the first strip in doubt.
+pub fn read_words(words: &[u64]) -> EntryPass
+    ensures { λ r. ⌜ shownPass r ≡ entryPass (wordRead (now (words .entry))) (length (now (words .entry))) ⌝ }
+{
+    let mut externals: usize = 0;
+    let mut i = 0;
+    while 2 <= words.len() - i {
+        let n = smaller(STRIP / 2, (words.len() - i) / 2);
+        match survey_words(words, i, n) {
+            Survey::Clean(more) => {
+                externals += more as usize;
+                i = i + n + n;
+            }
+            Survey::Doubtful => {
+                return read_words_from(words, i, externals);
+            }
+        }
+    }
+    read_words_from(words, i, externals)
 }

@@ -1,10 +1,10 @@
--- The keys of the map: a key's numbers, whether it is one of those before it, and what is left of the rules after some.
+-- The keys of the map: when a key is of elements, the highest of those before it, and what is left of the rules after some.
 -- Assumes nothing.
 use mathlib.Core.Path.{_≡_, refl, sym, ap, _∙_}
 use mathlib.Core.List.{List, [], _∷_}
 use mathlib.Core.Bool.{Bool, true, false, not, _&&_}
 use mathlib.Core.Logic.{_⊎_, inr, ⊎-elim}
-use Prim.Native.Nat.{ℕ, zero, suc, _+_, _*_, _≤_, _<_}
+use Prim.Native.Nat.{ℕ, suc, _+_, _*_, _≤_, _<_}
 use native.Mathlib.Numerals.{add-one}
 use native.Mathlib.Omega.{arith}
 use lib.ListN.{length, take, drop, getD}
@@ -12,26 +12,19 @@ use lib.Seq.{drop-cons, drop-length, drop-drop}
 use Rattle.wire.specs.Table.{Outcome, refused, accepted, pick, firstMet, checked}
 use Rattle.wire.specs.Refusals.{ELEMENT, DUPLICATE}
 use Rattle.wire.specs.Words.{isElement, notElements, wordOrder}
-use Rattle.wire.specs.declared.word.WordOrder.{WordOrder}
 use Rattle.wire.specs.declared.word.WordOrder.the-variants.{Below, Same, Above}
 use Rattle.wire.proofs.Counts.{lt-or-ge}
 use Rattle.wire.proofs.Words.{elements-mean, order-irreflexive, order-transitive, order-same}
-use Rattle.keys.specs.Keys.{isSame, sameKey, seenKey}
+use Rattle.keys.specs.Keys.{seenKey}
+use Rattle.keys.specs.Claim.{keyAt, keysBefore, claimed}
+use Rattle.keys.specs.declared.claim.Claim.{Claim}
+use Rattle.keys.specs.declared.claim.Claim.the-variants.{Apart, Repeat}
+use Rattle.keys.proofs.Lent.{key-whole, seen-none, all-others}
+use Rattle.keys.proofs.Claims.{claim-apart, claim-repeat}
 use Rattle.writer.specs.Writer.{keyRules}
-use Rattle.writer.specs.Inner.{keyAt, keysBefore, Top}
+use Rattle.writer.specs.Inner.{Top, FirstTwice}
 
--- ---- the numbers of a key
-
-take-next : (n : ℕ) (keys : List ℕ) (k m : ℕ) → m ≡ k + 1 → k < length keys → take (suc n) (drop k keys) ≡ getD keys k 0 ∷ take n (drop m keys)
-take-next n keys k m e h = rw (e, add-one) (ap (take (suc n)) (drop-cons keys k 0 h))
-
-pub four-numbers : (keys : List ℕ) (k : ℕ) → k + 4 ≤ length keys
-    → take 4 (drop k keys) ≡ getD keys k 0 ∷ getD keys (k + 1) 0 ∷ getD keys (k + 2) 0 ∷ getD keys (k + 3) 0 ∷ []
-four-numbers keys k h =
-    take-next 3 keys k (k + 1) refl (omega arith)
-    ∙ ap (λ (l : List ℕ). getD keys k 0 ∷ l) (take-next 2 keys (k + 1) (k + 2) (omega arith) (omega arith)
-    ∙ ap (λ (l : List ℕ). getD keys (k + 1) 0 ∷ l) (take-next 1 keys (k + 2) (k + 3) (omega arith) (omega arith)
-    ∙ ap (λ (l : List ℕ). getD keys (k + 2) 0 ∷ l) (take-next 0 keys (k + 3) (k + 4) (omega arith) (omega arith))))
+-- ---- a key of elements
 
 -- four tests of elements, as the code joins them
 pub four-elements : (key : List ℕ) → length key ≡ 4
@@ -49,49 +42,10 @@ four-elements (a ∷ (b ∷ (c ∷ (d ∷ [])))) e =
     twice false = refl
 four-elements (a ∷ (b ∷ (c ∷ (d ∷ (x ∷ l))))) e = absurd (omega arith)
 
--- ---- one of the keys before
-
-module _ (keys : List ℕ) (i : ℕ) (key : List ℕ) where
-  -- compared with the last of them
-  pub seen-here : wordOrder (keyAt keys i) key ≡ Same → seenKey (keysBefore keys (suc i)) key ≡ true
-  unfolding keysBefore seenKey sameKey
-  seen-here e = rw e
-
-  pub seen-on : isSame (wordOrder (keyAt keys i) key) ≡ false → seenKey (keysBefore keys (suc i)) key ≡ seenKey (keysBefore keys i) key
-  unfolding keysBefore seenKey sameKey
-  seen-on e = rw e
-
-pub seen-none : (keys key : List ℕ) → seenKey (keysBefore keys 0) key ≡ false
-unfolding keysBefore seenKey
-seen-none keys key = refl
-
--- none of them is the key
-pub all-others : (keys : List ℕ) (i : ℕ) (key : List ℕ) → ((j : ℕ) → j < i → wordOrder (keyAt keys j) key ≡ Same → ⊥) → seenKey (keysBefore keys i) key ≡ false
-all-others keys zero key h = seen-none keys key
-all-others keys (suc i) key h =
-    seen-on keys i key (other (wordOrder (keyAt keys i) key) (h i (omega arith))) ∙ all-others keys i key (λ j l. h j (omega arith))
-  where
-    other : (o : WordOrder) → (o ≡ Same → ⊥) → isSame o ≡ false
-    other Below n = refl
-    other Same n = absurd (n refl)
-    other Above n = refl
-
--- the key at `top` is one of them
-pub top-seen : (keys : List ℕ) (i top : ℕ) (key : List ℕ) → top < i → wordOrder (keyAt keys top) key ≡ Same → seenKey (keysBefore keys i) key ≡ true
-top-seen keys zero top key h e = absurd (omega arith)
-top-seen keys (suc i) top key h e = go (wordOrder (keyAt keys i) key) refl (λ l. top-seen keys i top key l e)
-  where
-    earlier : isSame (wordOrder (keyAt keys i) key) ≡ false → (top < i → seenKey (keysBefore keys i) key ≡ true) → seenKey (keysBefore keys (suc i)) key ≡ true
-    earlier n ih =
-        ⊎-elim
-        (λ l. seen-on keys i key n ∙ ih l)
-        (λ m. let same : top ≡ i = omega arith in seen-here keys i key (rw same at e))
-        (lt-or-ge top i)
-
-    go : (o : WordOrder) → wordOrder (keyAt keys i) key ≡ o → (top < i → seenKey (keysBefore keys i) key ≡ true) → seenKey (keysBefore keys (suc i)) key ≡ true
-    go Same q ih = seen-here keys i key q
-    go Below q ih = earlier (rw q) ih
-    go Above q ih = earlier (rw q) ih
+-- a test that is turned round, of a key that is or is not of elements
+pub word-told : (a b t : Bool) → a ≡ not b → not a ≡ t → b ≡ t
+word-told a true t p q = sym (ap not p) ∙ q
+word-told a false t p q = sym (ap not p) ∙ q
 
 -- ---- the highest key so far
 
@@ -152,13 +106,14 @@ unfolding keysBefore
 left-all keys lengths = refl
 
 module _ (keys lengths : List ℕ) (i : ℕ) where
-  module _ (h : i < length lengths) where
+  module _ (long : length keys ≡ 4 * length lengths) (h : i < length lengths) where
     unroll : left keys lengths i
         ≡ pick (notElements (keyAt keys i)) (refused ELEMENT i) (pick (seenKey (keysBefore keys i) (keyAt keys i)) (refused DUPLICATE i) (left keys lengths (i + 1)))
     unfolding keyRules keysBefore firstMet
     unroll =
         let four : 4 * suc i ≡ 4 * i + 4 = omega arith in
-        rw (add-one, drop-cons lengths i 0 h, four, drop-drop) (rw add-one)
+        let whole : keyAt keys i ≡ take 4 (drop (4 * i) keys) = key-whole keys i (omega arith) in
+        rw (add-one, drop-cons lengths i 0 h, four, drop-drop, whole) (rw add-one)
 
     pub no-word : notElements (keyAt keys i) ≡ true → refused ELEMENT i ≡ left keys lengths i
     no-word e = sym (unroll ∙ rw e)
@@ -172,3 +127,13 @@ module _ (keys lengths : List ℕ) (i : ℕ) where
   pub left-none : i ≡ length lengths → left keys lengths i ≡ accepted tt
   unfolding keyRules firstMet
   left-none e = rw (e, drop-length lengths)
+
+-- ---- what a claim tells of the keys
+
+pub none-known : (keys lengths order : List ℕ) → length keys ≡ 4 * length lengths → (c : Claim) → c ≡ Apart → c ≡ claimed keys order → FirstTwice keys (length lengths) (length lengths)
+none-known keys lengths order long c e said =
+    let k = claim-apart keys order (sym said ∙ e) in
+    (λ i h l. k .1 i (omega (arith, k .0)), λ h. absurd (omega arith))
+
+pub first-known : (keys order : List ℕ) (n r : ℕ) (c : Claim) → c ≡ Repeat r → c ≡ claimed keys order → FirstTwice keys n r
+first-known keys order n r c e said = let k = claim-repeat keys order r (sym said ∙ e) in (λ i h l. k .1 i l, λ h. k .0)

@@ -1,74 +1,65 @@
--- The entry words, one after the other: what is left of their rules after some, and their written form.
+-- The entry words, one after the other: their rules as a pass, and their written form.
 -- Assumes nothing.
-use mathlib.Core.Path.{_≡_, refl, ap, _∙_}
+use mathlib.Core.Path.{_≡_, refl, sym, ap, _∙_}
 use mathlib.Core.List.{List, [], _∷_, map}
-use mathlib.Core.Bool.{Bool, true, false}
-use Prim.Native.Nat.{ℕ, suc, _+_, _≤_, _<_, zero-le}
-use native.Mathlib.Nat.{zero-add}
+use Prim.Native.Nat.{ℕ, zero, suc, _+_, _≤_, _<_, zero-le}
+use native.Mathlib.Nat.{zero-add, add-assoc}
 use native.Mathlib.Numerals.{add-one}
 use native.Mathlib.Omega.{arith}
 use lib.ListN.{length, drop, getD}
 use lib.Seq.{drop-cons, drop-length}
-use Rattle.wire.specs.Table.{Outcome, refused, accepted, pick, firstMet, noneMet}
-use Rattle.wire.proofs.Tables.{none-parts, accepted-none, none-accepted}
-use Rattle.info.specs.Entry.{entryOf, badTag, badPayload, decodeRules, decodeOutcome, wordOf, canonical}
+use Rattle.wire.specs.Table.{Outcome, refused, accepted, firstMet, noneMet, _>>=_}
+use Rattle.wire.proofs.Tables.{none-parts, none-accepted}
+use Rattle.wire.proofs.Stages.{in-turn}
+use Rattle.info.specs.Entry.{entryOf, decodeRules, decodeOutcome, wordOf, canonical}
 use Rattle.info.specs.declared.MastNodeEntry.{MastNodeEntry}
 use Rattle.info.proofs.Laws.{decoded-word}
-use Rattle.rows.specs.Rows.{externalOne}
+use Rattle.rows.specs.Rows.{wordRead, externalOne, countExternal, entryPass}
+use Rattle.rows.proofs.Pass.{external-le, pass-none, step-read, step-refused, step-goes-on, step-stop}
 use Rattle.layout.specs.Scan.{wordsRules, externals}
-use Rattle.rows.proofs.Pass.{external-le}
 use Rattle.writer.specs.Writer.{written}
 use Rattle.writer.specs.Inner.{wordsOutcome}
 
--- ---- one word, its place given later
+-- ---- the words' rules say what the pass says
 
-module _ (i w : ℕ) (rest : Outcome ℕ) where
-  abbrev judged : Outcome ℕ
-  judged = pick (badTag w) (refused 9 i) (pick (badPayload w) (refused 10 i) rest)
-
-  word-refused : (n z : ℕ) → decodeOutcome 0 w ≡ refused n z → judged ≡ refused n i
-  unfolding decodeOutcome decodeRules firstMet
-  word-refused n z e = go (badTag w) (badPayload w) e
-    where
-      go : (t p : Bool) → pick {A = Outcome MastNodeEntry} t (refused 9 0) (pick p (refused 10 0) (accepted (entryOf w))) ≡ refused n z
-          → pick t (refused 9 i) (pick p (refused 10 i) rest) ≡ refused n i
-      go true p q = cc
-      go false true q = cc
-      go false false q = cc
-
-  word-accepted : (e : MastNodeEntry) → decodeOutcome 0 w ≡ accepted e → (judged ≡ rest) × (entryOf w ≡ e)
-  unfolding decodeOutcome decodeRules
-  word-accepted e q = let k = accepted-none (decodeRules 0 w) (entryOf w) e q in (rw (k .0 .0, k .0 .1 .0), k .1)
-
--- ---- the words from number i on, after x externals
-
-abbrev pub left : List ℕ → ℕ → ℕ → Outcome ℕ
+-- the words from number i on, after x externals
+abbrev left : List ℕ → ℕ → ℕ → Outcome ℕ
 left words i x = firstMet (wordsRules 1 i (drop i words)) (x + externals (drop i words))
 
-pub left-all : (words : List ℕ) → left words 0 0 ≡ wordsOutcome words
-unfolding wordsOutcome
-left-all words = rw zero-add
+module _ (words : List ℕ) where
+  abbrev pass : ℕ → Outcome ℕ
+  pass n = entryPass (wordRead words) n
 
-module _ (words : List ℕ) (i x : ℕ) where
-  module _ (h : i < length words) where
-    abbrev here : ℕ
-    here = getD words i 0
+  left-next : (i x : ℕ) → i < length words → left words i x ≡ (wordRead words i >>= (λ e. left words (i + 1) (x + externalOne e)))
+  unfolding wordsRules externals decodeOutcome
+  left-next i x h =
+      let here = getD words i 0 in
+      let rest = drop (i + 1) words in
+      let first : drop i words ≡ here ∷ rest = rw add-one (drop-cons words i 0 h) in
+      let sum : x + externals (here ∷ rest) ≡ x + externalOne (entryOf here) + externals rest = sym (add-assoc x (externalOne (entryOf here)) (externals rest)) in
+      rw (first, sum)
+      (in-turn (decodeRules i here) (entryOf here) (λ _. wordsRules 1 (i + 1) rest) (λ e. x + externalOne e + externals rest) _ (λ e. refl))
 
-    unroll : left words i x ≡ judged i here (left words (i + 1) (x + externalOne (entryOf here)))
-    unfolding wordsRules externals decodeRules firstMet
-    unroll =
-        let sum : x + (externalOne (entryOf here) + externals (drop (suc i) words)) ≡ x + externalOne (entryOf here) + externals (drop (suc i) words) = omega arith in
-        rw (add-one, drop-cons words i 0 h, sum) (rw add-one)
-
-    pub left-refused : (n z : ℕ) → decodeOutcome 0 here ≡ refused n z → left words i x ≡ refused n i
-    left-refused n z e = unroll ∙ word-refused i here _ n z e
-
-    pub left-next : (e : MastNodeEntry) → decodeOutcome 0 here ≡ accepted e → left words i x ≡ left words (i + 1) (x + externalOne e)
-    left-next e q = let k = word-accepted i here (left words (i + 1) (x + externalOne (entryOf here))) e q in unroll ∙ k .0 ∙ rw (k .1)
-
-  pub left-none : i ≡ length words → left words i x ≡ accepted x
+  left-none : (i x : ℕ) → i ≡ length words → left words i x ≡ accepted x
   unfolding wordsRules externals firstMet
-  left-none e = rw (e, drop-length words) (ap accepted (omega arith))
+  left-none i x e = rw (e, drop-length words) (ap accepted (omega arith))
+
+  -- what is left after a pass so far is what the whole pass says
+  left-pass : (k i x : ℕ) → i + k ≡ length words → pass i ≡ accepted x → left words i x ≡ pass (length words)
+  unfolding _>>=_
+  left-pass zero i x e so-far = let end : i ≡ length words = omega arith in left-none i x end ∙ rw end at (sym so-far)
+  left-pass (suc k) i x e so-far =
+      left-next i x (omega arith) ∙ go (wordRead words i) refl (λ y p. left-pass k (i + 1) y (omega arith) p)
+    where
+      go : (o : Outcome MastNodeEntry) → wordRead words i ≡ o → ((y : ℕ) → pass (i + 1) ≡ accepted y → left words (i + 1) y ≡ pass (length words))
+          → (o >>= (λ e. left words (i + 1) (x + externalOne e))) ≡ pass (length words)
+      go (refused n p) q rest =
+          sym (step-stop (wordRead words) countExternal 0 i (length words) n p x (omega arith) so-far (step-refused (wordRead words) countExternal i x n p q))
+      go (accepted e) q rest = rest (x + externalOne e) (step-goes-on (wordRead words) countExternal 0 i x _ so-far (step-read (wordRead words) countExternal i x e q))
+
+  pub words-pass : wordsOutcome words ≡ pass (length words)
+  unfolding wordsOutcome
+  words-pass = rw zero-add at (left-pass (length words) 0 0 (zero-add (length words)) (pass-none (wordRead words) countExternal 0))
 
 -- ---- no more externals than words
 

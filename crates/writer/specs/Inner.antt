@@ -1,11 +1,11 @@
 -- Inner contracts only: the writer's table in segments, one for each stage of the code; sizes; and how a key stands among the earlier ones.
 -- A reader who believes the table of Writer need not read them: proofs/Split.antt shows that they say what the table says.
-use Prim.Native.Nat.{ℕ, zero, suc, _+_, _-_, _*_, _^_, _<_}
+use Prim.Native.Nat.{ℕ, _+_, _-_, _*_, _^_, _<_}
 use mathlib.Core.Path.{_≡_}
 use mathlib.Core.Bool.{Bool, true, false, not}
 use mathlib.Core.List.{List, [], _∷_, map}
 use mathlib.Core.Logic.{_⊎_}
-use lib.ListN.{length, take, drop}
+use lib.ListN.{length}
 use lib.Dec.{ltb, eqb}
 use Rattle.wire.specs.Table.{Rule, rule, Outcome, refused, accepted, pick, firstMet, checked, noneMet, _>>=_}
 use Rattle.wire.specs.Refusals.{FLAGS, OVERFLOW, TOO-MANY, ROOM, FORMAT, PARTS, numberOf}
@@ -18,6 +18,7 @@ use Rattle.layout.specs.Facts.{share, badFormat, hashBytes}
 use Rattle.layout.specs.Scan.{wordsRules, externals}
 use Rattle.layout.specs.declared.facts.FormatFacts.{FormatFacts}
 use Rattle.keys.specs.Keys.{seenKey}
+use Rattle.keys.specs.Claim.{keyAt, keysBefore}
 use Rattle.writer.specs.Parts.{Parts}
 use Rattle.writer.specs.Writer.{sum, keyRules}
 use Rattle.writer.specs.declared.check.PartsCheck.{PartsCheck}
@@ -76,15 +77,6 @@ fitOutcome f p =
 
 -- ---- keys
 
--- key i: four numbers
-abbrev pub keyAt : List ℕ → ℕ → List ℕ
-keyAt keys i = take 4 (drop (4 * i) keys)
-
--- the keys before number i, the last one first
-unfoldable pub keysBefore : List ℕ → ℕ → List (List ℕ)
-keysBefore keys zero = []
-keysBefore keys (suc i) = keyAt keys i ∷ keysBefore keys i
-
 -- no key before number i is above the one at `top`
 abbrev pub Top : List ℕ → ℕ → ℕ → Type 0
 Top keys i top = (i ≡ 0) ⊎ ((top < i) × ((j : ℕ) → j < i → wordOrder (keyAt keys top) (keyAt keys j) ≡ Below → ⊥))
@@ -94,6 +86,12 @@ abbrev pub Told : Standing → List ℕ → ℕ → ℕ → List ℕ → Type 0
 Told Highest keys i top key = (seenKey (keysBefore keys i) key ≡ false) × ((i ≡ 0) ⊎ (wordOrder (keyAt keys top) key ≡ Below))
 Told Between keys i top key = (seenKey (keysBefore keys i) key ≡ false) × (wordOrder (keyAt keys top) key ≡ Above)
 Told Repeated keys i top key = seenKey (keysBefore keys i) key ≡ true
+
+-- the first of n keys that an earlier one is has the number `twice`; where there is none, n stands for it
+abbrev pub FirstTwice : List ℕ → ℕ → ℕ → Type 0
+FirstTwice keys n twice =
+    ((i : ℕ) → i < n → i < twice → seenKey (keysBefore keys i) (keyAt keys i) ≡ false)
+    × (twice < n → seenKey (keysBefore keys twice) (keyAt keys twice) ≡ true)
 
 -- ---- sizes
 

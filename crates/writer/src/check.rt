@@ -1,11 +1,10 @@
 // What is judged before a byte is counted: the format, the flags, the entry words, how the parts fit
 // together, and the keys.
-use crate::key::check_keys;
-use info::Decoded;
-use info::decode_entry;
+use crate::key::check_keys_claimed;
 use layout::facts::FormatFacts;
 use layout::facts::bad_format;
-use rows::external_one;
+use rows::EntryPass;
+use rows::read_words;
 use wire::refusal::Refusal;
 ghost use mathlib.Core.Path.{_≡_};
 ghost use mathlib.Core.Bool.{not};
@@ -49,20 +48,10 @@ fn check_head(f: FormatFacts, flags: u8, nodes: usize) -> PartsCheck
 fn check_words(words: &[u64]) -> Nodes
     ensures { λ r. ⌜ shownNodes r ≡ wordsOutcome (now (words .entry)) ⌝ }
 {
-    let mut externals: usize = 0;
-    let mut i = 0;
-    while i < words.len() {
-        match decode_entry(words[i]) {
-            Decoded::Refused(why, _) => {
-                return Nodes::Refused(why, i);
-            }
-            Decoded::Entry(entry) => {
-                externals += external_one(entry);
-            }
-        }
-        i += 1;
+    match read_words(words) {
+        EntryPass::Refused(why, at) => Nodes::Refused(why, at),
+        EntryPass::Clean(externals) => Nodes::Counted(externals),
     }
-    Nodes::Counted(externals)
 }
 
 // The bytes of the hashes: 32 an internal node, none where the file is hashless.
@@ -118,7 +107,8 @@ fn check_lengths(
     PartsCheck::Fit
 }
 
-// All that is judged before the size, and how many nodes are External. Roots and blocks are not judged.
+// All that is judged before the size, and how many nodes are External. Roots and blocks are not judged. `order` is a claim
+// on the keys' order.
 pub(crate) fn check_parts(
     f: FormatFacts,
     flags: u8,
@@ -128,6 +118,7 @@ pub(crate) fn check_parts(
     keys: &[u64],
     lengths: &[u64],
     values: &[u64],
+    order: &[u64],
 ) -> Nodes
     ensures { λ r. ⌜ shownNodes r ≡ fitOutcome f (lent flags [] [] (now (words .entry)) (now (external .entry)) (now (hashes .entry)) (now (keys .entry)) (now (lengths .entry)) (now (values .entry))) ⌝ }
 {
@@ -149,7 +140,7 @@ pub(crate) fn check_parts(
                     lengths,
                 ) {
                     PartsCheck::Refused(why, at) => Nodes::Refused(why, at),
-                    PartsCheck::Fit => match check_keys(keys, lengths) {
+                    PartsCheck::Fit => match check_keys_claimed(keys, lengths, order) {
                         PartsCheck::Refused(why, at) => Nodes::Refused(why, at),
                         PartsCheck::Fit => Nodes::Counted(externals),
                     },

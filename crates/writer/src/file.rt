@@ -175,8 +175,9 @@ fn write_fitting(
     ForestWrite::Written(size)
 }
 
-// The file of lent parts, at the start of the output.
-pub fn write_forest(
+// The file of lent parts, at the start of the output. `order` is a claim: the numbers of the keys as these rise, those of the
+// same key as they rise. Empty or wrong it changes the time, and never the answer.
+pub fn write_forest_hinted(
     f: FormatFacts,
     flags: u8,
     roots: &[u32],
@@ -187,12 +188,23 @@ pub fn write_forest(
     keys: &[u64],
     lengths: &[u64],
     values: &[u64],
+    order: &[u64],
     out: &mut [u8],
 ) -> ForestWrite
     ensures { λ r. ⌜ shownWrite r ≡ writeOutcome f (lent flags (now (roots .entry)) (now (blocks .entry)) (now (words .entry)) (now (external .entry)) (now (hashes .entry)) (now (keys .entry)) (now (lengths .entry)) (now (values .entry))) (length (now (out .entry))) ⌝ }
     ensures { λ _. ⌜ now (out .exit) ≡ outputAfter f (lent flags (now (roots .entry)) (now (blocks .entry)) (now (words .entry)) (now (external .entry)) (now (hashes .entry)) (now (keys .entry)) (now (lengths .entry)) (now (values .entry))) (now (out .entry)) ⌝ }
 {
-    match check_parts(f, flags, words, external, hashes, keys, lengths, values) {
+    match check_parts(
+        f,
+        flags,
+        words,
+        external,
+        hashes,
+        keys,
+        lengths,
+        values,
+        order,
+    ) {
         Nodes::Refused(why, at) => ForestWrite::Refused(why, at),
         Nodes::Counted(externals) => write_fitting(
             f,
@@ -209,4 +221,37 @@ pub fn write_forest(
             out,
         ),
     }
+}
+
+// The file of lent parts, at the start of the output. Nothing is claimed of the keys' order.
+pub fn write_forest(
+    f: FormatFacts,
+    flags: u8,
+    roots: &[u32],
+    blocks: &[u8],
+    words: &[u64],
+    external: &[u8],
+    hashes: &[u8],
+    keys: &[u64],
+    lengths: &[u64],
+    values: &[u64],
+    out: &mut [u8],
+) -> ForestWrite
+    ensures { λ r. ⌜ shownWrite r ≡ writeOutcome f (lent flags (now (roots .entry)) (now (blocks .entry)) (now (words .entry)) (now (external .entry)) (now (hashes .entry)) (now (keys .entry)) (now (lengths .entry)) (now (values .entry))) (length (now (out .entry))) ⌝ }
+    ensures { λ _. ⌜ now (out .exit) ≡ outputAfter f (lent flags (now (roots .entry)) (now (blocks .entry)) (now (words .entry)) (now (external .entry)) (now (hashes .entry)) (now (keys .entry)) (now (lengths .entry)) (now (values .entry))) (now (out .entry)) ⌝ }
+{
+    write_forest_hinted(
+        f,
+        flags,
+        roots,
+        blocks,
+        words,
+        external,
+        hashes,
+        keys,
+        lengths,
+        values,
+        &lengths[0..0],
+        out,
+    )
 }

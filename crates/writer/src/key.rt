@@ -1,6 +1,10 @@
-// The keys of the map, four numbers each: every one of elements, and none an earlier one again. Keys
-// that rise cost one comparison each; a key below an earlier one is held against all of them.
+// The keys of the map, four numbers each: every one of elements, and none an earlier one again. Where a claim on their
+// order is true, it tells the first that is. Else keys that rise cost one comparison each, and a key below an earlier one is
+// held against all of them.
 use crate::check::PartsCheck;
+use keys::claim::Claim;
+use keys::claim::check_claim;
+use keys::claim::key_at;
 use wire::refusal::Refusal;
 use wire::word::WordOrder;
 use wire::word::is_element;
@@ -8,31 +12,20 @@ use wire::word::word_order;
 ghost use mathlib.Core.Path.{_≡_};
 ghost use mathlib.Core.Bool.{not};
 ghost use mathlib.Core.List.{[]};
-ghost use Prim.Native.Nat.{_+_, _*_, _≤_};
+ghost use Prim.Native.Nat.{_*_};
 ghost use lib.ListN.{length};
 ghost use Rattle.wire.specs.Table.{checked};
 ghost use Rattle.wire.specs.Words.{notElements};
 ghost use Rattle.keys.specs.Keys.{seenKey};
+ghost use Rattle.keys.specs.Claim.{keysBefore};
 ghost use Rattle.writer.specs.Writer.{keyRules};
-ghost use Rattle.writer.specs.Inner.{shownCheck, keyAt, keysBefore, Top, Told};
+ghost use Rattle.writer.specs.Inner.{shownCheck, Top, Told, FirstTwice};
 
 // How a key stands to those before it.
 enum Standing {
     Highest,
     Between,
     Repeated,
-}
-
-fn key_at(keys: &[u64], i: usize) -> [u64; 4]
-    requires { ⌜ 4 * i + 4 ≤ length (now keys) ⌝ }
-    ensures { λ r. ⌜ r ≡ keyAt (now (keys .entry)) i ⌝ }
-{
-    let k = 4 * i;
-    let a = keys[k];
-    let b = keys[k + 1];
-    let c = keys[k + 2];
-    let d = keys[k + 3];
-    [a, b, c, d]
 }
 
 fn is_word(key: [u64; 4]) -> bool
@@ -47,7 +40,6 @@ fn is_word(key: [u64; 4]) -> bool
 
 // Whether the key is one of the first n, the nearest compared first.
 fn is_seen(keys: &[u64], n: usize, key: [u64; 4]) -> bool
-    requires { ⌜ 4 * n ≤ length (now keys) ⌝ }
     ensures { λ r. ⌜ r ≡ seenKey (keysBefore (now (keys .entry)) n) key ⌝ }
 {
     let mut j = n;
@@ -66,7 +58,7 @@ fn is_seen(keys: &[u64], n: usize, key: [u64; 4]) -> bool
 
 // Key i among those before it, of which the one at `top` is the highest.
 fn key_standing(keys: &[u64], i: usize, top: usize, key: [u64; 4]) -> Standing
-    requires { ⌜ (4 * i + 4 ≤ length (now keys)) × Top (now keys) i top ⌝ }
+    requires { ⌜ Top (now keys) i top ⌝ }
     ensures { λ r. ⌜ Told r (now (keys .entry)) i top key ⌝ }
 {
     if i == 0 {
@@ -85,8 +77,8 @@ fn key_standing(keys: &[u64], i: usize, top: usize, key: [u64; 4]) -> Standing
     }
 }
 
-// Each key in turn: ELEMENT, then DUPLICATE of an earlier one.
-pub(crate) fn check_keys(keys: &[u64], lengths: &[u64]) -> PartsCheck
+// Each key in turn: ELEMENT, then DUPLICATE of an earlier one, which is searched for.
+fn check_keys(keys: &[u64], lengths: &[u64]) -> PartsCheck
     requires { ⌜ length (now keys) ≡ 4 * length (now lengths) ⌝ }
     ensures { λ r. ⌜ shownCheck r ≡ checked (keyRules 0 [] (now (keys .entry)) (now (lengths .entry))) ⌝ }
 {
@@ -109,4 +101,34 @@ pub(crate) fn check_keys(keys: &[u64], lengths: &[u64]) -> PartsCheck
         i += 1;
     }
     PartsCheck::Fit
+}
+
+// The same where it is known which key is the first to be an earlier one again.
+fn check_keys_known(keys: &[u64], lengths: &[u64], twice: usize) -> PartsCheck
+    requires { ⌜ (length (now keys) ≡ 4 * length (now lengths)) × FirstTwice (now keys) (length (now lengths)) twice ⌝ }
+    ensures { λ r. ⌜ shownCheck r ≡ checked (keyRules 0 [] (now (keys .entry)) (now (lengths .entry))) ⌝ }
+{
+    let mut i = 0;
+    while i < lengths.len() {
+        if !is_word(key_at(keys, i)) {
+            return PartsCheck::Refused(Refusal::Element, i);
+        }
+        if i == twice {
+            return PartsCheck::Refused(Refusal::Duplicate, i);
+        }
+        i += 1;
+    }
+    PartsCheck::Fit
+}
+
+// The same, whatever is claimed of the keys' order.
+pub(crate) fn check_keys_claimed(keys: &[u64], lengths: &[u64], order: &[u64]) -> PartsCheck
+    requires { ⌜ length (now keys) ≡ 4 * length (now lengths) ⌝ }
+    ensures { λ r. ⌜ shownCheck r ≡ checked (keyRules 0 [] (now (keys .entry)) (now (lengths .entry))) ⌝ }
+{
+    match check_claim(keys, order) {
+        Claim::Wrong => check_keys(keys, lengths),
+        Claim::Apart => check_keys_known(keys, lengths, lengths.len()),
+        Claim::Repeat(twice) => check_keys_known(keys, lengths, twice),
+    }
 }

@@ -57,6 +57,6 @@ pub const FAR: Layout = Layout {
     basic_block_len: usize::MAX,
     node_entry_offset: ByteOffset(usize::MAX),
     external_digest_offset: ByteOffset(usize::MAX),
-    node_hash_offset: Some(ByteOffset(usize::MAX)),
+    node_hashes: HashSection::at(ByteOffset(usize::MAX)),
     advice_map_offset: ByteOffset(usize::MAX),
 };

@@ -1,6 +1,6 @@
 //! Everything that can be asked of one file, one record or one map.
 use crate::{
-    calls::{MapOfRust, enough_places, published_parts},
+    calls::{MapOfRust, published_parts},
     make, model,
     rng::Rng,
     run::Run,
@@ -25,6 +25,7 @@ const NO_SCAN: Layout = Layout {
 impl Run {
     /// Scans, then all that a record serves: its own if it is accepted, and a made-up one.
     pub fn whole_file(&mut self, bytes: &[u8]) {
+        self.flags(bytes);
         let layout = self.scans(bytes);
         if let Some(l) = &layout {
             self.by_record(bytes, l);
@@ -102,9 +103,8 @@ impl Run {
 
     /// A walk with places enough and with too few, then lookups.
     pub fn map_at(&mut self, bytes: &[u8], at: usize) {
-        let enough = enough_places(bytes, at);
-        let Some(walked) = self.walk_map(bytes, at, enough) else {
-            let few = self.rng.below(enough);
+        let Some(walked) = self.walk_enough(bytes, at) else {
+            let few = self.rng.below(bytes.len() / 33 + 2);
             self.walk_map(bytes, at, few);
             return;
         };
@@ -147,8 +147,14 @@ impl Run {
         for n in [keys.len(), keys.len() + 1, self.rng.below(keys.len()), any] {
             self.lookup_foreign(bytes, &keys, n, key);
         }
+        for index in [0, 1, 2, keys.len(), any] {
+            self.at_place(bytes, &keys, index);
+        }
         let damaged = make::damaged(&mut self.rng, bytes);
         self.lookup_foreign(&damaged, &walked.keys, walked.keys.len(), key);
+        for index in 0..walked.keys.len().min(4) {
+            self.at_place(&damaged, &walked.keys, index);
+        }
     }
 
     /// The writer on an accepted file's parts; then the published readers on what it wrote.

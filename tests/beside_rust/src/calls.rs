@@ -1,7 +1,7 @@
 //! One call of each entry point, and the answer it is held against.
 use published::answers::{self, Refused, Walked as PublishedMap};
 
-use crate::{input::Input, model, ours, points::Point, run::Run, told::*};
+use crate::{input::Input, make, model, ours, points::Point, run::Run, told::*};
 
 impl Run {
     // COUNTS: the shim's vint64 is no oracle, so these are held against the model's.
@@ -14,14 +14,14 @@ impl Run {
 
     pub fn shortest_len(&mut self, v: u64) {
         let input = Input { number: Some(v), ..Input::default() };
-        let (ours, document) = (Ok(ours::shortest_len(v)), Ok(model::shortest_len(v)));
-        self.beside_model(Point::ShortestLen, &input, ours, document);
+        let document = Ok(model::shortest_len(v));
+        self.beside_model(Point::ShortestLen, &input, ours::shortest_len(v), document);
     }
 
     pub fn write_count(&mut self, places: usize, at: usize, v: u64) {
-        let mut out: Vec<u8> = (0..places).map(|i| 0xC0 | i as u8).collect();
+        let out: Vec<u8> = (0..places).map(|i| 0xC0 | i as u8).collect();
         let document = model::write_count(&out, at, v);
-        let ours = ours::write_count(&mut out, at, v);
+        let ours = ours::write_count(&out, at, v);
         let input = Input { bytes: &out, index: Some(at), number: Some(v), ..Input::default() };
         self.beside_model(Point::WriteCount, &input, ours, document);
     }
@@ -39,10 +39,23 @@ impl Run {
         let input = Input { entry: Some(entry), ..Input::default() };
         let rust = answers::encode(entry).ok_or_else(panics);
         let document = || model::encode_entry(entry);
-        self.beside_rust(Point::EncodeEntry, &input, ours::encode_entry(entry), rust, document);
+        let ours = ours::encode_entry(entry, row_of(entry));
+        self.beside_rust(Point::EncodeEntry, &input, ours, rust, document);
+    }
+
+    /// Any kind and numbers, as C may hand them over.
+    pub fn encode_row(&mut self, row: [u64; 3]) {
+        let input = Input { row: Some(row), ..Input::default() };
+        let document = model::encode_row(row);
+        self.beside_model(Point::EncodeRow, &input, ours::encode_row(row), document);
     }
 
     // THE SCAN
+
+    pub fn flags(&mut self, bytes: &[u8]) {
+        let input = Input { bytes, ..Input::default() };
+        self.beside_model(Point::Flags, &input, ours::flags(bytes), model::flags(bytes));
+    }
 
     /// The layout, if the proved code accepts.
     pub fn scan(&mut self, bytes: &[u8], allow: bool, bound: Option<usize>) -> Option<Layout> {
@@ -143,20 +156,64 @@ impl Run {
 
     // THE MAP
 
-    /// The key table, if the proved code accepts. With places enough the Rust is asked; ROOM is the
-    /// model's.
-    pub fn walk_map(&mut self, bytes: &[u8], at: usize, places: usize) -> Option<Walked> {
+    /// How many places are enough, as the proved code says.
+    pub fn places(&mut self, bytes: &[u8], at: usize) -> usize {
+        let input = Input { bytes, index: Some(at), ..Input::default() };
+        let ours = ours::places(bytes, at);
+        self.beside_model(Point::Places, &input, ours, Ok(model::places(bytes, at)));
+        ours.unwrap_or(0)
+    }
+
+    /// A walk with the places that are enough: the Rust, which has no ROOM, is asked.
+    pub fn walk_enough(&mut self, bytes: &[u8], at: usize) -> Option<Walked> {
+        let places = self.places(bytes, at);
         let (index, lent) = (Some(at), Some(places));
         let input = Input { bytes, index, places: lent, ..Input::default() };
         let ours = ours::walk_map(bytes, at, places);
         let walked = ours.clone().ok();
         let document = || model::walk_map(bytes, at, places);
-        if places >= enough_places(bytes, at) {
-            self.beside_rust(Point::Walk, &input, ours, published_walk(bytes, at), document);
-        } else {
-            self.beside_model(Point::Walk, &input, ours, document());
-        }
+        self.beside_rust(Point::Walk, &input, ours, published_walk(bytes, at), document);
         walked
+    }
+
+    /// With any number of places. Where ROOM is not the answer, the Rust is asked.
+    pub fn walk_map(&mut self, bytes: &[u8], at: usize, places: usize) {
+        let (index, lent) = (Some(at), Some(places));
+        let input = Input { bytes, index, places: lent, ..Input::default() };
+        let ours = ours::walk_map(bytes, at, places);
+        let document = model::walk_map(bytes, at, places);
+        if document.as_ref().is_err_and(|r| r.number == ROOM) {
+            self.beside_model(Point::Walk, &input, ours, document);
+        } else {
+            let rust = published_walk(bytes, at);
+            self.beside_rust(Point::Walk, &input, ours, rust, || document.clone());
+        }
+    }
+
+    /// The key and the entry at a place of any table.
+    pub fn at_place(&mut self, bytes: &[u8], keys: &[u64], index: usize) {
+        let (lent, asked) = (Some(keys), Some(index));
+        let input = Input { bytes, keys: lent, index: asked, ..Input::default() };
+        let document = model::key(bytes, keys, index);
+        self.beside_model(Point::Key, &input, ours::key(bytes, keys, index), document);
+        let document = model::map_entry(bytes, keys, index);
+        self.beside_model(Point::MapEntry, &input, ours::map_entry(bytes, keys, index), document);
+    }
+
+    /// Those of a table that the walk filled from the same bytes, and the wrapper's map: they are the
+    /// published map's.
+    fn at_place_walked(&mut self, bytes: &[u8], map: &MapOfRust, keys: &[u64], index: usize) {
+        let (lent, asked) = (Some(keys), Some(index));
+        let input = Input { bytes, keys: lent, index: asked, ..Input::default() };
+        let Some(row) = map.rows.get(index) else {
+            return self.at_place(bytes, keys, index);
+        };
+        let document = || model::key(bytes, keys, index);
+        let ours = ours::key(bytes, keys, index);
+        self.beside_rust(Point::Key, &input, ours, Ok(row.key), document);
+        let document = || model::map_entry(bytes, keys, index);
+        let ours = ours::map_entry(bytes, keys, index);
+        self.beside_rust(Point::MapEntry, &input, ours, Ok(entry_of_row(row)), document);
     }
 
     /// Over a table that the walk filled from the same bytes.
@@ -171,9 +228,9 @@ impl Run {
     }
 
     fn values_walked(&mut self, input: &Input, map: &MapOfRust, keys: &[u64], key: [u64; 4]) {
-        let ours = Ok(ours::values(input.bytes, keys, keys.len(), key));
-        let document = || Ok(model::values(input.bytes, keys, keys.len(), key));
-        self.beside_rust(Point::Values, input, ours, Ok(map.part(key)), document);
+        let ours = ours::values(input.bytes, keys, keys.len(), key);
+        let document = || model::values(input.bytes, keys, keys.len(), key);
+        self.beside_rust(Point::Values, input, ours, map.part(key), document);
     }
 
     /// The wrapper's map, which holds file and table together, on the same questions.
@@ -187,9 +244,29 @@ impl Run {
             let rust = map.looked_up(key, compared_by_halving(bytes, &keys, key));
             let looked = held.as_ref().map_err(|r| *r).and_then(|h| h.lookup(key));
             self.beside_rust(Point::HeldMap, &input, looked, rust, document);
-            let part = held.as_ref().map_err(|r| *r).map(|h| h.values(key));
-            let document = || Ok(model::values(bytes, &keys, keys.len(), key));
-            self.beside_rust(Point::HeldValues, &input, part, Ok(map.part(key)), document);
+            let part = held.as_ref().map_err(|r| *r).and_then(|h| h.values(key));
+            let document = || model::values(bytes, &keys, keys.len(), key);
+            self.beside_rust(Point::HeldValues, &input, part, map.part(key), document);
+        }
+        let input = Input { bytes, index: Some(at), ..Input::default() };
+        let whole = held.as_ref().map_err(|r| *r).map(|h| h.whole());
+        let rust = Ok([map.rows.len(), map.end, bytes.len() - map.end]);
+        self.beside_rust(Point::HeldWhole, &input, whole, rust, || {
+            let walked = model::walk_map(bytes, at, keys.len())?;
+            Ok([walked.keys.len(), walked.end, walked.trailing])
+        });
+        for index in (0..=keys.len().min(3)).chain([self.rng.below(keys.len() + 1)]) {
+            self.at_place_walked(bytes, map, &keys, index);
+            let input = Input { bytes, index: Some(index), ..Input::default() };
+            let document = || model::map_entry(bytes, &keys, index);
+            let entry = held.as_ref().map_err(|r| *r).and_then(|h| h.entry(index));
+            match map.rows.get(index) {
+                Some(row) => {
+                    let rust = Ok(entry_of_row(row));
+                    self.beside_rust(Point::HeldEntry, &input, entry, rust, document);
+                }
+                None => self.beside_model(Point::HeldEntry, &input, entry, document()),
+            }
         }
     }
 
@@ -200,18 +277,25 @@ impl Run {
         let input = Input { bytes, keys: keys_lent, key: key_asked, number, ..Input::default() };
         let document = model::lookup(bytes, keys, n, key);
         self.beside_model(Point::Lookup, &input, ours::lookup(bytes, keys, n, key), document);
-        let document = Ok(model::values(bytes, keys, n, key));
-        let ours = Ok(ours::values(bytes, keys, n, key));
-        self.beside_model(Point::Values, &input, ours, document);
+        let document = model::values(bytes, keys, n, key);
+        self.beside_model(Point::Values, &input, ours::values(bytes, keys, n, key), document);
     }
 
     // THE WRITER
 
-    /// Any parts, held against document 01's file or refusal.
+    /// Any parts, held against document 01's file or refusal: whatever order of the keys is claimed.
     pub fn write(&mut self, facts: &Facts, parts: &Parts, places: usize) -> Option<Vec<u8>> {
+        let claims = make::claims(&mut self.rng, &parts.keys);
         let (lent, room) = (Some(parts), Some(places));
-        let input = Input { facts: Some(facts), parts: lent, places: room, ..Input::default() };
-        let ours = ours::write(facts, parts, places);
+        let facts_given = Some(facts);
+        let input = Input {
+            facts: facts_given,
+            parts: lent,
+            places: room,
+            claims: &claims,
+            ..Input::default()
+        };
+        let ours = ours::write(facts, parts, &claims, places);
         let file = ours.clone().ok();
         self.beside_model(Point::Write, &input, ours, model::write(facts, parts, places));
         file
@@ -230,6 +314,25 @@ impl Run {
         });
         self.beside_rust(Point::Write, &input, Ok(lent.clone()), rust, || Ok(lent.clone()));
     }
+}
+
+fn row_of(entry: Entry) -> [u64; 3] {
+    let (kind, a, b) = match entry {
+        Entry::Join { left_child_id, right_child_id } => (0, left_child_id, right_child_id),
+        Entry::Split { if_branch_id, else_branch_id } => (1, if_branch_id, else_branch_id),
+        Entry::Loop { body_id } => (2, body_id, 0),
+        Entry::Block { ops_offset } => (3, ops_offset, 0),
+        Entry::Call { callee_id } => (4, callee_id, 0),
+        Entry::SysCall { callee_id } => (5, callee_id, 0),
+        Entry::Dyn => (6, 0, 0),
+        Entry::Dyncall => (7, 0, 0),
+        Entry::External => (8, 0, 0),
+    };
+    [kind, a.into(), b.into()]
+}
+
+fn entry_of_row(row: &answers::Row) -> MapEntry {
+    MapEntry { key: row.key, len: row.len, values: row.values_at }
 }
 
 fn panics() -> Refused {
@@ -251,40 +354,34 @@ fn published_strict(bytes: &[u8], l: &Layout) -> Result<(), Refused> {
     Ok(())
 }
 
-/// An entry takes at least 33 bytes, so with so many places none lacks.
-pub fn enough_places(bytes: &[u8], at: usize) -> usize {
-    bytes.len().saturating_sub(at) / 33 + 1
-}
-
 fn published_walk(bytes: &[u8], at: usize) -> Result<Walked, Refused> {
     let (rows, end) = answers::walk(bytes, at)?;
-    Ok(Walked { keys: rows.iter().map(|r| r.key_at as u64).collect(), end })
+    let keys = rows.iter().map(|r| r.key_at as u64).collect();
+    Ok(Walked { keys, end, trailing: bytes.len() - end })
 }
 
 /// The published map over some bytes, with the places of its values.
 pub struct MapOfRust<'a> {
     rows: Vec<answers::Row>,
+    end: usize,
     map: PublishedMap<'a>,
 }
 
 impl<'a> MapOfRust<'a> {
     pub fn walk(bytes: &'a [u8], at: usize) -> Option<Self> {
-        let (rows, _) = answers::walk(bytes, at).ok()?;
-        Some(Self { rows, map: PublishedMap::new(bytes, at)? })
+        let (rows, end) = answers::walk(bytes, at).ok()?;
+        Some(Self { rows, end, map: PublishedMap::new(bytes, at)? })
     }
 
     pub fn keys(&self) -> impl Iterator<Item = [u64; 4]> {
         self.rows.iter().map(|r| r.key)
     }
 
-    /// The values' part of the file, and its place in it where it is not empty.
-    fn part(&self, key: [u64; 4]) -> (usize, Vec<u8>) {
-        match self.looked_up(key, 0) {
-            Ok(Looked { found: Some((at, values)), .. }) if !values.is_empty() => {
-                (at, values.iter().flat_map(|v| v.to_le_bytes()).collect())
-            }
-            _ => (0, Vec::new()),
-        }
+    /// The values' part of the file and its place in it.
+    fn part(&self, key: [u64; 4]) -> Result<Part, Refused> {
+        let found = self.looked_up(key, 0)?.found;
+        let bytes = |values: Vec<u64>| values.iter().flat_map(|v| v.to_le_bytes()).collect();
+        Ok(found.map(|(at, values)| (at, bytes(values))))
     }
 
     /// The Rust counts no comparisons; that number is handed in.

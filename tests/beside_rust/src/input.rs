@@ -16,6 +16,8 @@ pub struct Input<'a> {
     pub bound: Option<usize>,
     pub slots: Option<&'a [u32]>,
     pub entry: Option<Entry>,
+    /// A kind and two numbers, which may be no entry.
+    pub row: Option<[u64; 3]>,
     /// How many places were lent.
     pub places: Option<usize>,
     /// A number to be written or decoded, or the n of a lookup.
@@ -23,12 +25,17 @@ pub struct Input<'a> {
     pub keys: Option<&'a [u64]>,
     pub key: Option<[u64; 4]>,
     pub parts: Option<&'a Parts>,
+    /// The orders of the keys that the writer is told.
+    pub claims: &'a [Vec<u64>],
 }
 
 impl fmt::Display for Input<'_> {
     fn fmt(&self, f: &mut fmt::Formatter<'_>) -> fmt::Result {
         if let Some(entry) = self.entry {
             write!(f, "{entry:?} ")?;
+        }
+        if let Some(row) = self.row {
+            write!(f, "row {row:?} ")?;
         }
         if let Some(n) = self.number {
             write!(f, "number {n} ")?;
@@ -59,6 +66,9 @@ impl fmt::Display for Input<'_> {
         }
         if let Some(parts) = self.parts {
             write!(f, "{parts:?} ")?;
+        }
+        if !self.claims.is_empty() {
+            write!(f, "claims {:?} ", self.claims)?;
         }
         write!(f, "bytes {}", hex(self.bytes))?;
         match self.facts {

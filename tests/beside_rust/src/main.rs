@@ -9,6 +9,7 @@ mod model;
 mod ours;
 mod points;
 mod random;
+mod raw;
 mod report;
 mod rng;
 mod run;

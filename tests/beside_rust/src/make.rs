@@ -2,7 +2,7 @@
 use crate::{
     model::{MODULUS, count_of_len, encode_entry, shortest_len},
     rng::Rng,
-    told::{Entry, Facts, Layout},
+    told::{Entry, Facts, Layout, Parts},
 };
 
 /// Mostly the shortest form; longer forms are read too.
@@ -83,6 +83,79 @@ fn keys(rng: &mut Rng, entries: usize) -> Vec<[u64; 4]> {
     }
     spoil_an_element(rng, &mut keys, 6);
     keys
+}
+
+/// Claims of the order in which some keys rise, equal keys by their number: the true one, none, and two that are mostly wrong.
+pub fn claims(rng: &mut Rng, keys: &[u64]) -> Vec<Vec<u64>> {
+    let mut numbered: Vec<(&[u64], u64)> = keys.chunks(4).zip(0..).collect();
+    numbered.sort();
+    let right: Vec<u64> = numbered.iter().map(|&(_, number)| number).collect();
+    let wrong = [wrong_claim(rng, &right, &numbered), wrong_claim(rng, &right, &numbered)];
+    [vec![right, Vec::new()], wrong.to_vec()].concat()
+}
+
+fn wrong_claim(rng: &mut Rng, right: &[u64], numbered: &[(&[u64], u64)]) -> Vec<u64> {
+    let n = right.len();
+    let mut claim = right.to_vec();
+    let (one, other) = (rng.below(n.max(1)), rng.below(n.max(1)));
+    match rng.below(10) {
+        _ if n == 0 => claim.push(rng.wide() as u64),
+        0 => claim = (0..n as u64).collect(),
+        1 => rng.shuffle(&mut claim),
+        2 => claim.reverse(),
+        3 => claim.swap(one, (one + 1) % n),
+        4 => claim[one] = claim[other], // a number twice, and another not
+        5 => claim[one] = n as u64 + rng.below(2) as u64,
+        6 => claim[one] = rng.wide() as u64,
+        7 => drop(claim.remove(one)),
+        8 => claim.push(rng.wide() as u64),
+        // equal keys by falling number
+        _ => {
+            let mut falling = numbered.to_vec();
+            falling.sort_by(|a, b| a.0.cmp(b.0).then(b.1.cmp(&a.1)));
+            claim = falling.iter().map(|&(_, number)| number).collect();
+        }
+    }
+    claim
+}
+
+/// Parts of a file without nodes whose keys are often there twice and sometimes no words, in any order.
+pub fn parts_of_keys(rng: &mut Rng, facts: &Facts, entries: usize) -> Parts {
+    let range = [1, 2, 1 + entries as u64, 1 << 40][rng.below(4)];
+    let mut keys: Vec<[u64; 4]> = (0..entries)
+        .map(|_| std::array::from_fn(|k| if k < 2 { 5 } else { rng.number() % range }))
+        .collect();
+    match rng.below(4) {
+        0 => keys.sort(),
+        1 => keys.sort_by(|a, b| b.cmp(a)),
+        2 => keys.sort_by_key(|key| key[3]),
+        _ => {}
+    }
+    if entries > 1 && rng.percent(40) {
+        keys[rng.below(entries)] = keys[rng.below(entries)];
+    }
+    spoil_an_element(rng, &mut keys, 10);
+    let lengths: Vec<u64> = (0..entries).map(|_| rng.below(3) as u64).collect();
+    let values = (0..lengths.iter().sum()).map(|_| rng.number()).collect();
+    Parts {
+        flags: rng.one_of(&[0, facts.hashless]),
+        keys: keys.concat(),
+        lengths,
+        values,
+        ..Parts::default()
+    }
+}
+
+/// Any kind and numbers, mostly near what is allowed.
+pub fn row(rng: &mut Rng) -> [u64; 3] {
+    let kind = if rng.percent(90) { rng.below(10) } else { rng.wide() };
+    let mut number = || match rng.below(5) {
+        0 => (1 << 30) - 2 + rng.below(4) as u64,
+        1 => (1 << 32) - 2 + rng.below(4) as u64,
+        2 => rng.wide() as u64,
+        _ => rng.below(9) as u64,
+    };
+    [kind as u64, number(), number()]
 }
 
 /// A map of so many entries, which is mostly accepted.

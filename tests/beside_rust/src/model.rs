@@ -73,6 +73,24 @@ pub fn decode_entry(word: u64, place: usize) -> Told<Entry> {
     })
 }
 
+/// The word of a kind and two numbers, of which those that the kind has not are not looked at.
+pub fn encode_row([kind, first, second]: [u64; 3]) -> Told<u64> {
+    need(kind <= 8, INDEX, kind as usize)?;
+    let limit: u64 = if kind <= 1 { 1 << 30 } else { 1 << 32 };
+    let payload = match kind {
+        0 | 1 => {
+            need(first < limit && second < limit, PAYLOAD, 0)?;
+            first << 30 | second
+        }
+        2..=5 => {
+            need(first < limit, PAYLOAD, 0)?;
+            first
+        }
+        _ => 0,
+    };
+    Ok(kind << 60 | payload)
+}
+
 pub fn encode_entry(entry: Entry) -> Told<u64> {
     let pair = |tag: u64, left: u32, right: u32| {
         need(left < 1 << 30 && right < 1 << 30, PAYLOAD, 0)?;
@@ -96,6 +114,12 @@ pub fn encode_entry(entry: Entry) -> Told<u64> {
 
 pub fn is_format(f: &Facts) -> bool {
     f.hashless.count_ones() == 1 && f.hashless & f.reserved == 0 && f.max_nodes <= 1 << 30
+}
+
+/// The byte after the magic; nothing else is looked at.
+pub fn flags(bytes: &[u8]) -> Told<u8> {
+    need(bytes.len() > 4, SHORT, 4)?;
+    Ok(bytes[4])
 }
 
 pub fn scan(bytes: &[u8], f: &Facts, allow: bool, bound: Option<usize>) -> Told<Layout> {
@@ -322,7 +346,38 @@ pub fn walk_map(bytes: &[u8], offset: usize, places: usize) -> Told<Walked> {
         at = values + 8 * len;
     }
     read.sort();
-    Ok(Walked { keys: read.into_iter().map(|(_, at)| at).collect(), end: at })
+    let keys = read.into_iter().map(|(_, at)| at).collect();
+    Ok(Walked { keys, end: at, trailing: bytes.len() - at })
+}
+
+/// An entry has a key of 32 bytes and a count, so of the bytes left each 33 are at most one; the next
+/// is refused by SHORT or by ROOM, and with a place for it by SHORT.
+pub fn places(bytes: &[u8], at: usize) -> usize {
+    match read_count(bytes, at) {
+        Ok((entries, _, first)) => (entries as usize).min((bytes.len() - first) / 33 + 1),
+        Err(_) => 0,
+    }
+}
+
+/// The place of the key at a place of the table, and the key.
+fn key_placed(bytes: &[u8], keys: &[u64], index: usize) -> Told<(usize, [u64; 4])> {
+    let Some(&at) = keys.get(index) else {
+        return refuse(INDEX, index);
+    };
+    need(at as u128 + 32 <= bytes.len() as u128, SHORT, at as usize)?;
+    let key = word_of(&bytes[at as usize..at as usize + 32]);
+    need(key.iter().all(|&e| e < MODULUS), ELEMENT, at as usize)?;
+    Ok((at as usize, key))
+}
+
+pub fn key(bytes: &[u8], keys: &[u64], index: usize) -> Told<[u64; 4]> {
+    key_placed(bytes, keys, index).map(|(_, key)| key)
+}
+
+pub fn map_entry(bytes: &[u8], keys: &[u64], index: usize) -> Told<MapEntry> {
+    let (at, key) = key_placed(bytes, keys, index)?;
+    let (len, values) = values_at(bytes, at + 32)?;
+    Ok(MapEntry { key, len, values })
 }
 
 pub fn lookup(bytes: &[u8], keys: &[u64], n: usize, key: [u64; 4]) -> Told<Looked> {
@@ -354,14 +409,10 @@ fn read_values(bytes: &[u8], length_at: usize) -> Told<(usize, Vec<u64>)> {
     }
 }
 
-/// The part of the file, and its place in it where it is not empty.
-pub fn values(bytes: &[u8], keys: &[u64], n: usize, key: [u64; 4]) -> (usize, Vec<u8>) {
-    match lookup(bytes, keys, n, key) {
-        Ok(Looked { found: Some((at, values)), .. }) if !values.is_empty() => {
-            (at, bytes[at..at + 8 * values.len()].to_vec())
-        }
-        _ => (0, Vec::new()),
-    }
+/// The part of the file and its place in it; none where the key is absent.
+pub fn values(bytes: &[u8], keys: &[u64], n: usize, key: [u64; 4]) -> Told<Part> {
+    let found = lookup(bytes, keys, n, key)?.found;
+    Ok(found.map(|(at, values)| (at, bytes[at..at + 8 * values.len()].to_vec())))
 }
 
 // THE WRITER

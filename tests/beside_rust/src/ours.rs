@@ -1,16 +1,23 @@
-//! The proved code's answers, by the wrapper's functions, in the common shape. Lent memory is held
-//! against the promise here: a breach answers with the number MEMORY, which agrees with nothing.
+//! The proved code's answers, by the wrapper's functions and by the exported ones, in the common
+//! shape. The two must agree, and lent memory is held against the promise: a breach answers with the
+//! number MEMORY, which agrees with nothing.
 use vekalumist as proved;
 
-use crate::told::{
-    Entry, Facts, Layout, Looked, MEMORY, Parts, Refusal, Slots, Told, Walked, le64, refuse,
+use crate::{
+    raw,
+    told::{
+        Entry, Facts, Layout, Looked, MARK, MEMORY, MapEntry, Part, Parts, Refusal, Slots, Told,
+        Walked, le64, refuse,
+    },
 };
-
-/// Fills lent tables and output before a call; what must stay must still be this.
-const MARK: u64 = 0xA5A5_5A5A_A5A5_5A5A;
 
 fn told<T>(answer: Result<T, proved::Refusal>) -> Told<T> {
     answer.map_err(|r| Refusal { number: r.kind.number(), place: r.place })
+}
+
+/// The wrapper's answer, which is that of the function it calls.
+fn both<T: PartialEq>(wrapper: Told<T>, raw: Told<T>) -> Told<T> {
+    if wrapper == raw { wrapper } else { refuse(MEMORY, 0) }
 }
 
 fn facts_given(f: &Facts) -> proved::Facts {
@@ -34,7 +41,10 @@ fn layout_given(l: &Layout) -> proved::Layout {
         basic_block_len: l.basic_block_len,
         node_entry_offset: proved::ByteOffset(l.node_entry_offset),
         external_digest_offset: proved::ByteOffset(l.external_digest_offset),
-        node_hash_offset: l.node_hash_offset.map(proved::ByteOffset),
+        node_hashes: match l.node_hash_offset {
+            Some(at) => proved::HashSection::at(proved::ByteOffset(at)),
+            None => proved::HashSection::ABSENT,
+        },
         advice_map_offset: proved::ByteOffset(l.advice_map_offset),
     }
 }
@@ -50,7 +60,7 @@ fn layout_shown(l: proved::Layout) -> Layout {
         basic_block_len: l.basic_block_len,
         node_entry_offset: l.node_entry_offset.0,
         external_digest_offset: l.external_digest_offset.0,
-        node_hash_offset: l.node_hash_offset.map(|at| at.0),
+        node_hash_offset: l.node_hash_offset().map(|at| at.0),
         advice_map_offset: l.advice_map_offset.0,
     }
 }
@@ -87,58 +97,79 @@ fn entry_given(e: Entry) -> proved::Entry {
 
 /// Value, length and the place after it.
 pub fn read_count(bytes: &[u8], at: usize) -> Told<(u64, usize, usize)> {
-    let count = told(proved::read_count(bytes, proved::ByteOffset(at)))?;
-    Ok((count.value, count.len, count.next.0))
+    let count = told(proved::read_count(bytes, proved::ByteOffset(at)));
+    both(count.map(|count| (count.value, count.len, count.next.0)), raw::read_count(bytes, at))
 }
 
-pub fn shortest_len(v: u64) -> usize {
-    proved::shortest_len(v)
+pub fn shortest_len(v: u64) -> Told<usize> {
+    both(Ok(proved::shortest_len(v)), Ok(raw::shortest_len(v)))
 }
 
 /// The output after the call, and the place after the count.
-pub fn write_count(out: &mut [u8], at: usize, v: u64) -> Told<(Vec<u8>, usize)> {
-    let before = out.to_vec();
-    match told(proved::write_count(out, proved::ByteOffset(at), v)) {
-        Ok(next) => Ok((out.to_vec(), next.0)),
-        Err(r) if out == before => Err(r),
-        Err(_) => refuse(MEMORY, 0),
-    }
+pub fn write_count(out: &[u8], at: usize, v: u64) -> Told<(Vec<u8>, usize)> {
+    let written = |call: &dyn Fn(&mut [u8]) -> Told<usize>| {
+        let mut after = out.to_vec();
+        match call(&mut after) {
+            Ok(next) => Ok((after, next)),
+            Err(r) if after == out => Err(r),
+            Err(_) => refuse(MEMORY, 0),
+        }
+    };
+    both(
+        written(&|out| {
+            told(proved::write_count(out, proved::ByteOffset(at), v)).map(|next| next.0)
+        }),
+        written(&|out| raw::write_count(out, at, v)),
+    )
 }
 
 pub fn decode_entry(word: u64) -> Told<Entry> {
-    told(proved::decode_entry(word)).map(entry_shown)
+    both(told(proved::decode_entry(word)).map(entry_shown), raw::decode_entry(word))
 }
 
-pub fn encode_entry(entry: Entry) -> Told<u64> {
-    told(proved::encode_entry(entry_given(entry)))
+pub fn encode_entry(entry: Entry, row: [u64; 3]) -> Told<u64> {
+    both(told(proved::encode_entry(entry_given(entry))), raw::encode_row(row))
+}
+
+/// Any three numbers, which no `Entry` of the wrapper may be.
+pub fn encode_row(row: [u64; 3]) -> Told<u64> {
+    raw::encode_row(row)
+}
+
+pub fn flags(bytes: &[u8]) -> Told<u8> {
+    both(told(proved::flags(bytes)), raw::flags(bytes))
 }
 
 pub fn scan(bytes: &[u8], facts: &Facts, allow: bool, bound: Option<usize>) -> Told<Layout> {
-    told(proved::scan(bytes, &facts_given(facts), allow, bound)).map(layout_shown)
+    let layout = told(proved::scan(bytes, &facts_given(facts), allow, bound));
+    both(layout.map(layout_shown), raw::scan(bytes, facts, allow, bound))
 }
 
 pub fn root(bytes: &[u8], layout: &Layout, index: usize) -> Told<u32> {
-    told(proved::root(bytes, &layout_given(layout), index))
+    let root = told(proved::root(bytes, &layout_given(layout), index));
+    both(root, raw::root(bytes, layout, index))
 }
 
 pub fn entry(bytes: &[u8], layout: &Layout, index: usize) -> Told<Entry> {
-    told(proved::entry(bytes, &layout_given(layout), index)).map(entry_shown)
+    let entry = told(proved::entry(bytes, &layout_given(layout), index));
+    both(entry.map(entry_shown), raw::entry(bytes, layout, index))
 }
 
 pub fn children(bytes: &[u8], layout: &Layout) -> Told<()> {
-    told(proved::children(bytes, &layout_given(layout)))
+    both(told(proved::children(bytes, &layout_given(layout))), raw::children(bytes, layout))
 }
 
 pub fn order(bytes: &[u8], layout: &Layout) -> Told<()> {
-    told(proved::order(bytes, &layout_given(layout)))
+    both(told(proved::order(bytes, &layout_given(layout))), raw::order(bytes, layout))
 }
 
 pub fn strict(bytes: &[u8], layout: &Layout) -> Told<()> {
-    told(proved::strict(bytes, &layout_given(layout)))
+    both(told(proved::strict(bytes, &layout_given(layout))), raw::strict(bytes, layout))
 }
 
 pub fn digest(bytes: &[u8], layout: &Layout, index: usize) -> Told<[u64; 4]> {
-    told(proved::digest(bytes, &layout_given(layout), index))
+    let digest = told(proved::digest(bytes, &layout_given(layout), index));
+    both(digest, raw::digest(bytes, layout, index))
 }
 
 pub fn digest_with_table(
@@ -147,51 +178,91 @@ pub fn digest_with_table(
     index: usize,
     table: &[u32],
 ) -> Told<[u64; 4]> {
-    told(proved::digest_with_table(bytes, &layout_given(layout), index, table))
+    let digest = told(proved::digest_with_table(bytes, &layout_given(layout), index, table));
+    both(digest, raw::digest_with_table(bytes, layout, index, table))
 }
 
 pub fn slots(bytes: &[u8], layout: &Layout, bound: Option<usize>, places: usize) -> Told<Slots> {
-    let mut table = vec![MARK as u32; places];
     let kept = |rest: &[u32]| rest.iter().all(|&p| p == MARK as u32);
-    match told(proved::slots(bytes, &layout_given(layout), bound, &mut table)) {
-        Ok(left) if layout.node_count <= places && kept(&table[layout.node_count..]) => {
-            table.truncate(layout.node_count);
-            Ok(Slots { table, left })
+    let filled = |call: &dyn Fn(&mut [u32]) -> Told<Option<usize>>| {
+        let mut table = vec![MARK as u32; places];
+        match call(&mut table) {
+            Ok(left) if layout.node_count <= places && kept(&table[layout.node_count..]) => {
+                table.truncate(layout.node_count);
+                Ok(Slots { table, left })
+            }
+            Err(r) if kept(&table) => Err(r),
+            _ => refuse(MEMORY, 0),
         }
-        Err(r) if kept(&table) => Err(r),
-        _ => refuse(MEMORY, 0),
-    }
+    };
+    both(
+        filled(&|table| told(proved::slots(bytes, &layout_given(layout), bound, table))),
+        filled(&|table| raw::slots(bytes, layout, bound, table)),
+    )
+}
+
+pub fn places(bytes: &[u8], at: usize) -> Told<usize> {
+    both(Ok(proved::places(bytes, proved::ByteOffset(at))), Ok(raw::places(bytes, at)))
 }
 
 pub fn walk_map(bytes: &[u8], at: usize, places: usize) -> Told<Walked> {
-    let mut keys = vec![MARK; places];
-    match told(proved::walk_map(bytes, proved::ByteOffset(at), &mut keys)) {
-        Ok(w) if w.entries <= places && keys[w.entries..].iter().all(|&p| p == MARK) => {
-            keys.truncate(w.entries);
-            Ok(Walked { keys, end: w.end.0 })
+    let walked = |call: &dyn Fn(&mut [u64]) -> Told<[usize; 3]>| {
+        let mut keys = vec![MARK; places];
+        match call(&mut keys) {
+            Ok([n, end, trailing]) if n <= places && keys[n..].iter().all(|&p| p == MARK) => {
+                keys.truncate(n);
+                Ok(Walked { keys, end, trailing })
+            }
+            Err(r) if keys.iter().all(|&p| p == 0) => Err(r),
+            _ => refuse(MEMORY, 0),
         }
-        Err(r) if keys.iter().all(|&p| p == 0) => Err(r),
-        _ => refuse(MEMORY, 0),
-    }
+    };
+    let shown = |w: proved::Walked| [w.entries, w.end.0, w.trailing];
+    both(
+        walked(&|keys| told(proved::walk_map(bytes, proved::ByteOffset(at), keys)).map(shown)),
+        walked(&|keys| raw::walk(bytes, at, keys)),
+    )
+}
+
+pub fn key(bytes: &[u8], keys: &[u64], index: usize) -> Told<[u64; 4]> {
+    both(told(proved::key(bytes, keys, index)), raw::key(bytes, keys, index))
+}
+
+fn map_entry_shown(e: proved::MapEntry) -> MapEntry {
+    MapEntry { key: e.key, len: e.len, values: e.values.0 }
+}
+
+pub fn map_entry(bytes: &[u8], keys: &[u64], index: usize) -> Told<MapEntry> {
+    let entry = told(proved::map_entry(bytes, keys, index)).map(map_entry_shown);
+    both(entry, raw::map_entry(bytes, keys, index))
 }
 
 pub fn lookup(bytes: &[u8], keys: &[u64], n: usize, key: [u64; 4]) -> Told<Looked> {
-    looked(bytes, proved::lookup(bytes, keys, n, key))
+    both(
+        looked(bytes, looked_shown(proved::lookup(bytes, keys, n, key))),
+        looked(bytes, raw::lookup(bytes, keys, n, key)),
+    )
+}
+
+fn looked_shown(
+    answer: Result<proved::Lookup, proved::Refusal>,
+) -> Told<(Option<(usize, usize)>, usize)> {
+    Ok(match told(answer)? {
+        proved::Lookup::Absent { compared } => (None, compared),
+        proved::Lookup::Found { values, len, compared } => (Some((values.0, len)), compared),
+    })
 }
 
 /// The values are read here, from the place and number that the lookup gives.
-fn looked(bytes: &[u8], answer: Result<proved::Lookup, proved::Refusal>) -> Told<Looked> {
-    match told(answer)? {
-        proved::Lookup::Absent { compared } => Ok(Looked { found: None, compared }),
-        proved::Lookup::Found { values, len, compared } => {
-            let part = len.checked_mul(8).and_then(|l| bytes.get(values.0..)?.get(..l));
-            let Some(part) = part else {
-                return refuse(MEMORY, values.0);
-            };
-            let numbers = part.chunks(8).map(le64).collect();
-            Ok(Looked { found: Some((values.0, numbers)), compared })
-        }
-    }
+fn looked(bytes: &[u8], answer: Told<(Option<(usize, usize)>, usize)>) -> Told<Looked> {
+    let (found, compared) = answer?;
+    let Some((values, len)) = found else {
+        return Ok(Looked { found: None, compared });
+    };
+    let Some(part) = len.checked_mul(8).and_then(|l| bytes.get(values..)?.get(..l)) else {
+        return refuse(MEMORY, values);
+    };
+    Ok(Looked { found: Some((values, part.chunks(8).map(le64).collect())), compared })
 }
 
 /// The wrapper's map over a file.
@@ -207,27 +278,61 @@ impl<'a> HeldMap<'a> {
     }
 
     pub fn lookup(&self, key: [u64; 4]) -> Told<Looked> {
-        looked(self.bytes, self.map.lookup(key))
+        looked(self.bytes, looked_shown(self.map.lookup(key)))
     }
 
-    pub fn values(&self, key: [u64; 4]) -> (usize, Vec<u8>) {
-        placed(self.bytes, self.map.values(key))
+    pub fn values(&self, key: [u64; 4]) -> Told<Part> {
+        told(self.map.values(key)).map(|part| placed(self.bytes, part))
+    }
+
+    /// The entry at a place, whose key is the key there.
+    pub fn entry(&self, index: usize) -> Told<MapEntry> {
+        let entry = told(self.map.entry(index)).map(map_entry_shown);
+        match (entry, told(self.map.key(index))) {
+            (Ok(entry), Ok(key)) if entry.key == key => Ok(entry),
+            (Err(entry), Err(key)) if entry == key => Err(entry),
+            _ => refuse(MEMORY, index),
+        }
+    }
+
+    /// How many, the end, and how many bytes follow.
+    pub fn whole(&self) -> [usize; 3] {
+        [self.map.len(), self.map.end().0, self.map.trailing()]
     }
 }
 
-pub fn values(bytes: &[u8], keys: &[u64], n: usize, key: [u64; 4]) -> (usize, Vec<u8>) {
-    placed(bytes, proved::values(bytes, keys, n, key))
+pub fn values(bytes: &[u8], keys: &[u64], n: usize, key: [u64; 4]) -> Told<Part> {
+    let wrapper = told(proved::values(bytes, keys, n, key)).map(|part| placed(bytes, part));
+    let raw = match raw::values(bytes, keys, n, key) {
+        Ok(Some((at, len))) => match bytes.get(at..).and_then(|from| from.get(..len)) {
+            Some(part) => Ok(Some((at, part.to_vec()))),
+            None => refuse(MEMORY, at),
+        },
+        Ok(None) => Ok(None),
+        Err(r) => Err(r),
+    };
+    both(wrapper, raw)
 }
 
-/// A part of the file, and its place in it where it is not empty.
-fn placed(bytes: &[u8], part: &[u8]) -> (usize, Vec<u8>) {
-    let at = |part: &[u8]| part.as_ptr() as usize - bytes.as_ptr() as usize;
-    (if part.is_empty() { 0 } else { at(part) }, part.to_vec())
+/// A part of the file, and its place in it.
+fn placed(bytes: &[u8], part: Option<&[u8]>) -> Part {
+    part.map(|part| (part.as_ptr() as usize - bytes.as_ptr() as usize, part.to_vec()))
 }
 
-/// The file that was written.
-pub fn write(facts: &Facts, parts: &Parts, places: usize) -> Told<Vec<u8>> {
-    let mut out = vec![MARK as u8; places];
+/// The file that was written: by the wrapper, and under each of these claims.
+pub fn write(facts: &Facts, parts: &Parts, claims: &[Vec<u64>], places: usize) -> Told<Vec<u8>> {
+    let kept = |rest: &[u8]| rest.iter().all(|&b| b == MARK as u8);
+    let written = |call: &dyn Fn(&mut [u8]) -> Told<usize>| {
+        let mut out = vec![MARK as u8; places];
+        match call(&mut out) {
+            Ok(len) if len <= places && kept(&out[len..]) => {
+                out.truncate(len);
+                Ok(out)
+            }
+            Err(r) if kept(&out) => Err(r),
+            _ => refuse(MEMORY, 0),
+        }
+    };
     let lent = proved::Parts {
         flags: parts.flags,
         roots: &parts.roots,
@@ -239,13 +344,8 @@ pub fn write(facts: &Facts, parts: &Parts, places: usize) -> Told<Vec<u8>> {
         lengths: &parts.lengths,
         values: &parts.values,
     };
-    let kept = |rest: &[u8]| rest.iter().all(|&b| b == MARK as u8);
-    match told(proved::write(&facts_given(facts), &lent, &mut out)) {
-        Ok(len) if len <= places && kept(&out[len..]) => {
-            out.truncate(len);
-            Ok(out)
-        }
-        Err(r) if kept(&out) => Err(r),
-        _ => refuse(MEMORY, 0),
-    }
+    let wrapper = written(&|out| told(proved::write(&facts_given(facts), &lent, out)));
+    claims.iter().fold(wrapper, |answer, claim| {
+        both(answer, written(&|out| raw::write(facts, parts, claim, out)))
+    })
 }

@@ -22,6 +22,8 @@ points! {
     WriteCount "write_count",
     DecodeEntry "decode_entry",
     EncodeEntry "encode_entry",
+    EncodeRow "encode_entry, any row",
+    Flags "flags",
     Scan "scan",
     Root "root",
     Entry "entry",
@@ -33,11 +35,16 @@ points! {
     DigestConstructed "digest, constructor",
     DigestWithTable "digest_with_table",
     Slots "slots",
+    Places "places",
     Walk "walk_map",
+    Key "key",
+    MapEntry "map_entry",
     Lookup "lookup",
     Values "values",
     HeldMap "AdviceMap::lookup",
     HeldValues "AdviceMap::values",
+    HeldEntry "AdviceMap::entry",
+    HeldWhole "AdviceMap::trailing",
     Write "write",
 }
 
@@ -47,10 +54,12 @@ impl Point {
     pub fn refusals(self) -> &'static [u8] {
         match self {
             Point::ReadCount => &[SHORT],
-            Point::ShortestLen | Point::Values | Point::HeldValues => &[],
+            Point::ShortestLen | Point::Places | Point::HeldWhole => &[],
             Point::WriteCount => &[ROOM],
             Point::DecodeEntry => &[TAG, PAYLOAD],
             Point::EncodeEntry => &[PAYLOAD],
+            Point::EncodeRow => &[INDEX, PAYLOAD],
+            Point::Flags => &[SHORT],
             Point::Scan => &[
                 FORMAT, SHORT, MAGIC, VERSION, FLAGS, HASHLESS, OVERFLOW, TOO_MANY, BUDGET, TAG,
                 PAYLOAD, EXTERNALS,
@@ -68,8 +77,11 @@ impl Point {
             }
             Point::Slots => &[TOO_MANY, BUDGET, ROOM, OVERFLOW, SHORT, TAG, PAYLOAD],
             Point::Walk => &[SHORT, ROOM, ELEMENT, OVERFLOW, DUPLICATE],
-            Point::Lookup => &[ROOM, SHORT, OVERFLOW, ELEMENT],
-            Point::HeldMap => &[ELEMENT],
+            Point::Key => &[INDEX, SHORT, ELEMENT],
+            Point::MapEntry => &[INDEX, SHORT, ELEMENT, OVERFLOW],
+            Point::Lookup | Point::Values => &[ROOM, SHORT, OVERFLOW, ELEMENT],
+            Point::HeldMap | Point::HeldValues => &[ELEMENT],
+            Point::HeldEntry => &[INDEX],
             Point::Write => {
                 &[FORMAT, FLAGS, TOO_MANY, TAG, PAYLOAD, PARTS, ELEMENT, DUPLICATE, ROOM]
             }

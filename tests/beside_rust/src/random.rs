@@ -44,6 +44,7 @@ impl Run {
         let noise = make::noise(&mut self.rng, &facts);
         self.whole_file(&noise);
         self.made_up_map(round);
+        self.made_up_keys(round);
         self.made_up_numbers();
     }
 
@@ -61,6 +62,14 @@ impl Run {
         self.map_at(&bytes, elsewhere);
     }
 
+    /// The writer on keys in any order, with and without doubles.
+    fn made_up_keys(&mut self, round: u64) {
+        let facts = self.facts;
+        let entries = self.rng.below(if round % 100 == 0 { 300 } else { 9 });
+        let parts = make::parts_of_keys(&mut self.rng, &facts, entries);
+        self.write(&facts, &parts, 64 * entries + 30);
+    }
+
     fn made_up_numbers(&mut self) {
         let v = self.rng.number() >> self.rng.below(64);
         self.shortest_len(v);
@@ -76,5 +85,10 @@ impl Run {
         }
         let entry = make::entry(&mut self.rng);
         self.encode_entry(entry);
+        let row = make::row(&mut self.rng);
+        self.encode_row(row);
+        let start = self.rng.below(9);
+        let start = self.rng.bytes(start);
+        self.flags(&start);
     }
 }

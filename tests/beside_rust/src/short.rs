@@ -109,6 +109,13 @@ impl Run {
         for entry in [Entry::Dyn, Entry::Dyncall, Entry::External] {
             self.encode_entry(entry);
         }
+        for kind in (0..12).chain(near_powers()) {
+            for number in near_powers() {
+                self.encode_row([kind, number, 0]);
+                self.encode_row([kind, 0, number]);
+                self.encode_row([kind, number, number]);
+            }
+        }
     }
 
     /// At each section's start, all strings of up to 3 of some bytes: as the file's end, over what

@@ -2,11 +2,14 @@
 //! answer of one entry point is spoilt, and the run must then fail.
 use crate::{
     points::Point,
-    told::{Entry, Layout, Looked, Parts, Refusal, SHORT, Slots, Told, Walked, refuse},
+    told::{Entry, Layout, Looked, MapEntry, Part, Parts, Refusal, Slots, Told, Walked, refuse},
 };
 
 /// Which suited answer is spoilt: not the first, which may be a special case.
 const NTH: u64 = 100;
+
+/// No refusal's number, so that the published Rust cannot give it too.
+const NO_REFUSAL: u8 = 99;
 
 #[derive(Debug, Clone, Copy, PartialEq, Eq)]
 pub enum What {
@@ -62,7 +65,7 @@ impl Slip {
         match (self.what, &mut *answer) {
             (What::Value, Ok(value)) => {
                 if !value.spoil() {
-                    *answer = refuse(SHORT, 0);
+                    *answer = refuse(NO_REFUSAL, 0);
                 }
             }
             (What::Number, Err(Refusal { number, .. })) => *number += 1,
@@ -90,19 +93,22 @@ macro_rules! spoil {
 }
 
 spoil! {
+    u8: |n| *n ^= 1;
     u32: |n| *n ^= 1;
     u64: |n| *n ^= 1;
     usize: |n| *n ^= 1;
     [u64; 4]: |word| word[3] ^= 1;
     (u64, usize, usize): |count| count.0 ^= 1;
     (Vec<u8>, usize): |written| written.1 += 1;
-    (usize, Vec<u8>): |part| part.1.push(0);
+    [usize; 3]: |whole| whole[2] += 1;
+    MapEntry: |e| e.values += 1;
+    Part: |part| *part = if part.is_none() { Some((0, Vec::new())) } else { None };
     Vec<u8>: |file| file.push(0);
     Layout: |l| l.external_digest_offset += 1;
     Entry: |e| *e = if *e == Entry::Dyn { Entry::Dyncall } else { Entry::Dyn };
     Looked: |l| l.compared += 1;
     Parts: |p| p.flags ^= 1;
-    Walked: |w| w.end += 1;
+    Walked: |w| w.trailing += 1;
     Slots: |s| match s.table.last_mut() {
         Some(slot) => *slot += 1,
         None => s.table.push(0),

@@ -10,8 +10,11 @@ pub struct Refusal {
 
 pub type Told<T> = Result<T, Refusal>;
 
-/// The number of a refusal that nobody gives: lent memory was not left as promised.
+/// The number of a refusal that nobody gives: lent memory was not left as promised, or the wrapper says other than the function that it calls.
 pub const MEMORY: u8 = 0;
+
+/// Fills what may be written before a call; what must stay must still be this.
+pub const MARK: u64 = 0xA5A5_5A5A_A5A5_5A5A;
 
 pub const SHORT: u8 = 1;
 pub const MAGIC: u8 = 2;
@@ -76,12 +79,24 @@ pub struct Slots {
     pub left: Option<usize>,
 }
 
-/// The key offsets of a walked map, keys rising, and its end.
+/// The key offsets of a walked map, keys rising, its end, and how many bytes follow it.
 #[derive(Debug, Clone, PartialEq, Eq)]
 pub struct Walked {
     pub keys: Vec<u64>,
     pub end: usize,
+    pub trailing: usize,
 }
+
+/// An entry of a map: its key, how many values it has, and where they begin.
+#[derive(Debug, Clone, Copy, PartialEq, Eq)]
+pub struct MapEntry {
+    pub key: [u64; 4],
+    pub len: usize,
+    pub values: usize,
+}
+
+/// A key's values as a part of the file, with its place; none where the key is absent.
+pub type Part = Option<(usize, Vec<u8>)>;
 
 /// The place and the values of a key that was found, and how many keys were compared.
 #[derive(Debug, Clone, PartialEq, Eq)]

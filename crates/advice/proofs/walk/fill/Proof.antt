@@ -9,7 +9,7 @@ use borrow.Author.Needs.{needs}
 use lib.ListN.{length, drop, length-set}
 use Rattle.wire.specs.Table.{noneMet}
 use Rattle.advice.specs.Walk.{walkEnd, keyOffsets}
-use Rattle.advice.specs.Inner.{mapEntryRules, shownMapEntry}
+use Rattle.advice.specs.Inner.{entryRules, shownEntryEnd}
 use Rattle.advice.proofs.Entries.{end-next, fill-next, entry-taken, whole-next, stopped-room, stopped-entry, stopped-end}
 use Rattle.advice.proofs.walk.fill.Statement.{statement}
 use Rattle.advice.proofs.walk.fill.Tie as tie
@@ -17,7 +17,7 @@ use Rattle.advice.proofs.walk.fill.Tie as tie
 abbrev Inv-loop : tie.InvT-loop
 Inv-loop s n keys₀ i₀ from₀ keys i from =
     (i ≤ n) × (i ≤ length keys₀) × (length keys ≡ length keys₀) × (keys ≡ keyOffsets s from₀ i ++ drop i keys₀) × (from ≡ walkEnd s from₀ i)
-    × ((j : ℕ) → j < i → noneMet (mapEntryRules s (walkEnd s from₀ j)))
+    × ((j : ℕ) → j < i → noneMet (entryRules s (walkEnd s from₀ j)))
 
 abbrev μ-loop : tie.MeasureT-loop
 μ-loop s n keys₀ i₀ from₀ keys i from = n - i
@@ -41,7 +41,7 @@ entry c =
     let k = c .before .before .before in
     let l = k .before .before .before in
     let a = l .before .before .before .args in
-    let e = ap shownMapEntry (sym (c .before .why .given .1)) ∙ k .read-map-entry .ensures in
+    let e = ap shownEntryEnd (sym (c .before .why .given .1)) ∙ k .read-map-entry .ensures in
     record {
       within = l .loop .inv .1;
       table = l .loop .inv .3;
@@ -54,7 +54,7 @@ again c =
     let l = k .before .before .before in
     let a = l .before .before .before .args in
     let s = a .s .now in
-    let e = ap shownMapEntry (sym (c .before .next .given .1)) ∙ k .read-map-entry .ensures in
+    let e = ap shownEntryEnd (sym (c .before .next .given .1)) ∙ k .read-map-entry .ensures in
     let t = entry-taken s (walkEnd s (a .at .0) (l .loop .i)) _ (rw (l .loop .inv .4) at e) in (
       omega arith,
       omega arith,

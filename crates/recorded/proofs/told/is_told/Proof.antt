@@ -1,6 +1,6 @@
--- `recorded::told::is_told` meets its contract: the row is its first number, the next twelve, and the rest.
+-- `recorded::told::is_told` meets its contract: the row is its first two numbers and the rest.
 -- Assumes nothing.
-use Rattle.recorded.proofs.Copies.{three-parts}
+use Rattle.recorded.proofs.Copies.{two-then}
 use borrow.Author.Needs.{needs}
 use Rattle.recorded.proofs.told.is_told.Statement.{statement}
 use Rattle.recorded.proofs.told.is_told.Tie as tie
@@ -13,14 +13,9 @@ is-told-spec =
     (λ c. search needs)
     (λ c e. cc)
     (λ c. search needs)
+    (λ c e. cc)
     (λ c. search needs)
     (λ c. search needs)
     (λ c. search needs)
     (λ c κs. search needs)
-    (λ c. search needs)
-    (λ c. search needs)
-    (λ c. search needs)
-    (λ c. search needs)
-    (λ c κs. search needs)
-    (λ c e. three-parts _ _ _ _ (c .before .before .before .before .before .before .before .if1 .left) (c .before .before .before .before .before .if2 .left) (c .before .before .before .same-numbers .ensures (c .before .before .if3 .taken)) (c .same-numbers2 .ensures e))
-    (λ c e. cc))
+    (λ c e. two-then _ _ _ _ (c .before .before .before .before .before .before .if1 .left) (c .before .before .before .before .if2 .left) (c .before .before .if3 .left) (c .is-joined .ensures e)))

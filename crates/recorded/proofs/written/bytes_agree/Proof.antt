@@ -9,12 +9,12 @@ use Rattle.recorded.proofs.written.bytes_agree.Tie as tie
 returns : tie.Need-returns
 returns c e =
     let m = c .before .before .before in
-    rw (m .match .keys1) (c .before .count-agrees .ensures e ∙ rw (m .before .before .before .to-bytes .ensures (m .before .if1 .taken) .is))
+    rw (m .match .keys1) (c .before .stored-agrees .ensures e ∙ rw (m .before .before .before .to-bytes .ensures (m .before .if1 .taken) .is))
 
 returns-2 : tie.Need-returns-2
 returns-2 c e =
     let m = c .before .before .before in
-    rw (m .match .keys2) (c .before .file-agrees .ensures e ∙ rw (m .before .before .before .to-bytes .ensures (m .before .if1 .taken) .is))
+    rw (m .match .keys2) (c .before .written-agrees .ensures e ∙ rw (m .before .before .before .to-bytes .ensures (m .before .if1 .taken) .is))
 
 pub bytes-agree-spec : {M : Type 1} → statement M
 bytes-agree-spec =

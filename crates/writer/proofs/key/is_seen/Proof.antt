@@ -9,8 +9,8 @@ use Rattle.wire.specs.Words.{wordOrder}
 use Rattle.wire.specs.declared.word.WordOrder.{WordOrder}
 use Rattle.wire.specs.declared.word.WordOrder.the-variants.{Below, Above}
 use Rattle.keys.specs.Keys.{isSame, seenKey}
-use Rattle.writer.specs.Inner.{keyAt, keysBefore}
-use Rattle.writer.proofs.Keys.{seen-here, seen-on, seen-none}
+use Rattle.keys.specs.Claim.{keyAt, keysBefore}
+use Rattle.keys.proofs.Lent.{seen-here, seen-on, seen-none}
 use Rattle.writer.proofs.key.is_seen.Statement.{statement}
 use Rattle.writer.proofs.key.is_seen.Tie as tie
 

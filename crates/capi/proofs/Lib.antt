@@ -1,4 +1,0 @@
--- What the proofs of several functions use.
-mod Stores
-mod EntryLaws
-pub mod Values

@@ -1,7 +1,0 @@
--- `capi::told::bound_told` meets its contract: each arm is a line of the definitions. Assumes nothing.
-use borrow.Author.Needs.{needs}
-use Rattle.capi.proofs.told.bound_told.Statement.{statement}
-use Rattle.capi.proofs.told.bound_told.Tie as tie
-
-pub bound-told-spec : {M : Type 1} → statement M
-bound-told-spec = tie.close (tie.spec (λ c. search needs) (λ c. search needs) (λ c. rw (c .enum-told .given .1)) (λ c. rw (c .before .bound .given .1)))

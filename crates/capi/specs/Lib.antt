@@ -1,4 +1,0 @@
-pub mod Rows
-pub mod Given
-pub mod Shown
-pub mod Calls

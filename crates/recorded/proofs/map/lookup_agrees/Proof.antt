@@ -1,0 +1,36 @@
+-- `recorded::map::lookup_agrees` meets its contract: what the call says is the row of its number.
+-- Assumes nothing.
+use Rattle.recorded.proofs.Rows.{row-told}
+use Rattle.recorded.specs.Calls.{callRow, itself, blank, keyGiven}
+use Rattle.vekalumist.specs.Calls.{lookupCall}
+use borrow.Author.Needs.{needs}
+use denote.Ref.{now}
+use lib.ListN.{getD, take}
+use mathlib.Core.Path.{_≡_, refl, _∙_}
+use Rattle.recorded.proofs.map.lookup_agrees.Statement.{statement}
+use Rattle.recorded.proofs.map.lookup_agrees.Tie as tie
+
+returns : tie.Need-returns
+unfolding callRow
+returns c e =
+    let v = c .before .before .before .veka-raw-lookup .ensures in
+    let k = c .before .before .before .before .before .before .before .before .before .before .before .before .before .args in
+    let s = now (k .s) in
+    let a = now (k .a) in
+    let keys = now (k .keys) in
+    let x = c .before .before .before .before .before .before .before .number in
+    let w = c .before .before .before .before .before .before .before .before .key-given in
+    let o = lookupCall s keys (getD a 4 0) (keyGiven a) in
+    let same : lookupCall s keys (x .result) (w .result) ≡ o = rw (x .ensures, w .ensures) in
+    row-told itself (take 4 blank) o same (v .0) (c .before .four .ensures ∙ v .1 .0) (v .1 .1) refl (c .is-told .ensures e)
+
+pub lookup-agrees-spec : {M : Type 1} → statement M
+lookup-agrees-spec =
+    tie.close
+    (tie.spec
+    (λ c κs. search needs)
+    (λ c κs. search needs)
+    (λ c κs. search needs)
+    (λ c κs. search needs)
+    (λ c κs. search needs)
+    returns)

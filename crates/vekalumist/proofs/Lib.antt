@@ -1,0 +1,3 @@
+pub mod Told
+pub mod EntryLaws
+pub mod Values
