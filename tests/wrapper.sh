@@ -1,8 +1,10 @@
 #!/bin/sh
-# wrapper.sh PUBLISHED: the declarations in three languages, the Rust wrapper's tests and its example, the C header (null with length 0 in
-# every slice, swapped arguments) and its example on every sample, each as C11 and as C++17, the small program on whole files, and the comparison
-# with the published Rust, whose files are in the folder PUBLISHED. The archive is proved and built first, or taken from the folder in
-# VEKALUMIST_ARCHIVE. One line for each step; status 0 only if all agree. What the steps say themselves is kept in target/wrapper/.
+# wrapper.sh PUBLISHED: all that stands around the proved archive, in one command. The declarations in three languages; the Rust crate: layout,
+# clippy, tests, documentation with its tests, without the standard library, its build script, README's example; the C header (null with length
+# 0 in every slice, swapped arguments); the examples on every sample, in C as C11 and as C++17; the program mast on samples, made-up files and one
+# of 100 MB, and its man page; the small program and its script on whole files; and the comparison with the published Rust, whose files are in
+# the folder PUBLISHED. The archive is proved and built first, or taken from the folder in VEKALUMIST_ARCHIVE. One line for each step; status 0
+# only if all agree. What the steps say themselves is kept in target/wrapper/.
 set -eu
 published=${1:-${VEKALUMIST_PUBLISHED:-}}
 if [ $# -gt 1 ] || [ ! -d "$published" ]; then
@@ -42,13 +44,38 @@ export VEKALUMIST_ARCHIVE
 step signatures python3 tools/signatures.py
 echo "signatures: $(tail -n 1 "$work/signatures.log")"
 
-step rust cargo test --offline --manifest-path rust/Cargo.toml
-echo "rust: $(awk '/^test result: ok/ { n += $4 } END { print n + 0 }' "$work/rust.log") tests passed"
+# rust_crate NAME WORD..: cargo on the Rust crate
+rust_crate() {
+    name=$1 does=$2
+    shift 2
+    step "$name" cargo "$does" --offline --manifest-path rust/Cargo.toml "$@"
+}
+step format cargo fmt --check --manifest-path rust/Cargo.toml
+rust_crate clippy clippy --all-targets -- -D warnings
+rust_crate clippy_no_std clippy --no-default-features -- -D warnings
+step doc env RUSTDOCFLAGS="-D warnings" cargo doc --offline --no-deps --manifest-path rust/Cargo.toml
+rust_crate rust test
+passed() { awk "/Doc-tests/ { doc = 1 } /^test result: ok/ && doc == $1 { n += \$4 } END { print n + 0 }" "$work/rust.log"; }
+[ "$(passed 0)" -gt 0 ] && [ "$(passed 1)" -gt 0 ] || { echo "rust: no tests"; exit 1; }
+echo "rust: formatted, clippy has no warnings, $(passed 0) tests and $(passed 1) of the documentation passed"
+
+step no_std cargo build --release --offline --manifest-path tests/no_std/Cargo.toml
+step no_std_link gcc tests/no_std/run.c -Wl,--gc-sections "$CARGO_TARGET_DIR/release/libno_std.a" -o "$work/no_std"
+step no_std_run "$work/no_std"
+echo "without the standard library: $(cat "$work/no_std_run.log")"
+step build_script sh tests/build_script/run.sh "$VEKALUMIST_ARCHIVE"
+echo "build script: $(tail -n 1 "$work/build_script.log")"
 
 # README's example
 step layout cargo run --offline --manifest-path rust/Cargo.toml --example layout -- samples/advice.mast
-printf '3 nodes, entries at byte 17\n2 entries in the map, which ends at byte 228\n' >"$work/want"
-tail -n 2 "$work/layout.log" | cmp -s - "$work/want" || { echo "rust example: differs"; exit 1; }
+cat >"$work/want" <<'WANT'
+3 nodes, entries at byte 17
+root: node 2, Join 0 1
+0x0000000000000000020000000000000000000000000000000000000000000000: 0 values at byte 228
+0x0100000000000000000000000000000000000000000000000000000000000000: 3 values at byte 171
+the map ends at byte 228, and 0 bytes follow
+WANT
+tail -n 5 "$work/layout.log" | cmp -s - "$work/want" || { echo "rust example: differs"; exit 1; }
 sed -n '/^```rust$/,/^```$/p' README.md | sed '/^```/d' >"$work/readme.rs"
 tail -n +2 rust/examples/layout.rs | cmp -s - "$work/readme.rs" || { echo "rust example: README has another"; exit 1; }
 echo "rust example: agrees, and is README's"
@@ -68,43 +95,35 @@ step swapped sh tests/header/swapped.sh
 echo "swapped arguments: $(tail -n 1 "$work/swapped.log")"
 compiled layout examples/layout.c
 
-# what the example must print of each sample
-expected() {
-    p10='nodes 3 internal 2 external 1
-roots 1 at 11
-blocks 1 at 16
-entries at 17
-external digests at 41'
-    case $1 in
-    p10) printf '%s\nnode hashes none\nadvice at 73 end 74\n' "$p10" ;;
-    p10-hashes) printf '%s\nnode hashes at 73\nadvice at 137 end 138\n' "$p10" ;;
-    advice) printf '%s\nnode hashes at 73\nadvice at 137 end 228\n' "$p10" ;;
-    empty) printf 'nodes 0 internal 0 external 0\nroots 0 at 11\nblocks 0 at 12\nentries at 12\nexternal digests at 12\nnode hashes at 12\nadvice at 12 end 13\n' ;;
-    bad-magic) echo 'refused 1 at 0' ;;
-    bad-tag) echo 'refused 9 at 17' ;;
-    twice) echo 'refused 19 at 107' ;;
-    *) echo 'nothing is known of this sample' ;;
-    esac
-}
-tried=0
-for file in samples/*.mast; do
-    name=$(basename "$file" .mast)
-    expected "$name" >"$work/want"
+# example FILE TEXT: on FILE the example prints TEXT, and on standard error how many bytes follow the map, where some do
+example() {
+    printf '%b\n' "$2" >"$work/want"
+    after=0
+    case $2 in *' end '*) after=$(($(wc -c <"$1") - ${2##* end })) ;; esac
+    if [ "$after" -gt 0 ]; then echo "$after bytes follow the map"; fi >"$work/follows"
     for as in c cpp; do
-        "$work/layout_$as" "$file" >"$work/got" 2>"$work/complaint" || { echo "c example: $name: status $?"; exit 1; }
-        cmp -s "$work/want" "$work/got" || { echo "c example: $name: differs"; diff "$work/want" "$work/got" || true; exit 1; }
-        [ ! -s "$work/complaint" ] || { echo "c example: $name: bytes follow"; exit 1; }
+        "$work/layout_$as" "$1" >"$work/got" 2>"$work/complaint" || { echo "c example: $1: status $?"; exit 1; }
+        cmp -s "$work/want" "$work/got" || { echo "c example: $1: differs"; diff "$work/want" "$work/got" || true; exit 1; }
+        cmp -s "$work/follows" "$work/complaint" || { echo "c example: $1: differs on what follows the map"; exit 1; }
     done
+}
+step samples samples/make.py --check
+samples/make.py --list >"$work/list"
+tried=0
+while read -r name _ text; do
+    example "samples/$name" "$text"
     tried=$((tried + 1))
-done
+done <"$work/list"
 [ "$tried" -gt 0 ] || { echo "c example: no samples"; exit 1; }
 # a file above the small program's 65,536 bytes, with bytes after its map
 { cat samples/advice.mast; head -c 100000 /dev/zero; } >"$work/long.mast"
-expected advice >"$work/want"
-"$work/layout_c" "$work/long.mast" >"$work/got" 2>"$work/complaint" || { echo "c example: long: status $?"; exit 1; }
-cmp -s "$work/want" "$work/got" || { echo "c example: long: differs"; exit 1; }
-[ "$(cat "$work/complaint")" = "100000 bytes follow the map" ] || { echo "c example: long: what follows is not told"; exit 1; }
+example "$work/long.mast" "$(sed -n 's/^advice.mast 0 //p' "$work/list")"
 echo "c example: $tried samples and a long file agree, as C11 and as C++17"
+
+rust_crate mast build --release --bin mast
+mast=$CARGO_TARGET_DIR/release/mast
+step man python3 tools/man.py --check "$mast"
+echo "man page: made from the help, $(tail -n 1 "$work/man.log")"
 
 step program sh tests/mast_layout/run.sh
 echo "small program: $(tail -n 1 "$work/program.log")"

@@ -13,9 +13,15 @@ x86_64 | aarch64) ;;
 *) echo "archive.sh: no archive for $machine" >&2; exit 1 ;;
 esac
 
-# build: the archive as rt makes it, rt's own words kept in a file
+command -v rt >/dev/null || { echo "archive.sh: rt, the Rattle kit's command, is not on the PATH" >&2; exit 1; }
+
+# build: the archive as rt makes it. rt's own words are kept in a file; those on what it proves go to standard error as they come. The crates
+# below are proved first, since rt check takes several at a time and rt staticlib does not.
 build() {
-    (cd "$repo" && rt staticlib vekalumist) >"$out/build.log" 2>&1 || { tail "$out/build.log" >&2; exit 1; }
+    below=$(sed -n 's/^vekalumist://p' "$repo/crates.txt")
+    ended=$({ { cd "$repo" && { rt check $below && rt staticlib vekalumist; } 2>&1; echo $? >&3; } | tee "$out/build.log" |
+        grep --line-buffered '^rt: .* proved ([0-9]* s)' >&2; } 3>&1) || true
+    [ "$ended" = 0 ] || { tail "$out/build.log" >&2; exit 1; }
 }
 
 if [ "$machine" = x86_64 ]; then

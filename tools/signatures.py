@@ -49,14 +49,14 @@ def c_structs(path):
     return found
 
 
-def rust_structs(path):
+def rust_structs(units, path):
     """Each #[repr(C)] struct; a one-number struct is that number, and keeps its name beside."""
-    source, found = text(path), {}
-    for name in ("Slot", "ByteOffset"):
-        if not re.search(rf"#\[repr\(transparent\)\]\npub struct {name}\(pub usize\);", source):
-            wrong.append(f"{path}: {name} is not one number")
-    for name, body in re.findall(r"#\[repr\(C\)\]\npub struct (\w+) \{(.*?)\n\}", source, re.S):
-        fields = re.findall(r"^    (?:pub )?(\w+): (\w+),", body, re.M)
+    found = {}
+    for name, number in (("Slot", "usize"), ("ByteOffset", "usize"), ("NodeId", "u32")):
+        if not re.search(rf"#\[repr\(transparent\)\]\npub struct {name}\(pub {number}\);", text(units)):
+            wrong.append(f"{units}: {name} is not one {number}")
+    for name, body in re.findall(r"#\[repr\(C\)\]\npub struct (\w+) \{(.*?)\n\}", text(path), re.S):
+        fields = re.findall(r"^    (?:pub(?:\(crate\))? )?(\w+): (\w+),", body, re.M)
         found[name] = [f for own, kind in fields for f in (found[kind] if kind in found else [(own, kind)])]
     return found
 
@@ -128,7 +128,7 @@ for name, given in functions.items():
     same(f"{name}: its name says that it takes a slice", name.startswith("veka_raw_"), takes)
 
 raw_structs = c_structs("include/vekalumist_raw.h")
-of_rust = rust_structs("rust/src/lib.rs")
+of_rust = rust_structs("rust/src/units.rs", "rust/src/layout.rs")
 raw = re.findall(r"\nuint64_t (\w+)\(([^)]*)\);", without_comments(text("include/vekalumist_raw.h")))
 raw = {name: [] if given == "void" else parameters(given) for name, given in raw}
 
@@ -186,7 +186,7 @@ of_rattle = re.findall(r"pub (\w+): (\w+),", re.search(r"pub struct ForestLayout
 two = [("has_node_hashes", "u64"), ("node_hash_offset", "ByteOffset")]
 of_rattle = [f for own in of_rattle for f in (two if own == ("node_hash_offset", "HashSection") else [own])]
 same("veka_layout_t", [name for name, _ in raw_structs.get("veka_layout_t", [])], [name for name, _ in of_rattle])
-same("rust/src/lib.rs: Layout", of_rust.get("Layout"), of_rattle)
+same("rust/src/layout.rs: Layout", of_rust.get("Layout"), of_rattle)
 
 # ---- numbers that have names: version, refusals, kinds
 
@@ -210,13 +210,17 @@ said = re.findall(r'"([A-Z-]+)"', inline.get("veka_refusal_name", ("", ""))[1])
 same("veka_refusal_name", said, [named[n] for n in sorted(named)] + ["UNKNOWN"])
 table = {int(number): name for number, name in re.findall(r"\| (\d+) \| ([A-Z-]+) (?=\|)", text("README.md"))}
 same("README's table", {0: "OK", **table}, named)
-of_kinds = re.findall(r'Kind::\w+ => "([A-Z-]+)"', text("rust/src/refusal.rs"))
-same("rust/src/refusal.rs: names", of_kinds, [named[n] for n in sorted(refusals.values())])
+of_kinds = re.findall(r'^    (\w+) (\d+) "([A-Z-]+)" "', text("rust/src/refusal.rs"), re.M)
+wanted = [(number, name) for name, number in refusals.items()]
+same("rust/src/refusal.rs: variants", [(int(number), shouted(variant)) for variant, number, _ in of_kinds], sorted(wanted))
+same("rust/src/refusal.rs: names", [(int(number), name) for _, number, name in of_kinds], [(n, named[n]) for n, _ in sorted(wanted)])
 
 kinds = re.search(r"\npub enum MastNodeEntry \{(.*?)\n\}", text("crates/info/src/lib.rt"), re.S)[1]
-kinds = [kind.upper() for kind in re.findall(r"^    (\w+)", kinds, re.M)]
+kinds = re.findall(r"^    (\w+)", kinds, re.M)
 for number, kind in enumerate(kinds):
-    same(f"the number of {kind}", defined.get(kind), number)
+    same(f"the number of {kind}", defined.get(kind.upper()), number)
+of_entry = re.search(r"\npub enum Entry \{(.*?)\n\}", text("rust/src/entry.rs"), re.S)[1]
+same("rust/src/entry.rs: kinds in their order", re.findall(r"^    ([A-Z]\w*)", of_entry, re.M), kinds)
 
 for line in wrong:
     print(line)

@@ -2,7 +2,7 @@
 use std::{cell::RefCell, hint::black_box};
 
 use published::{Entry as Theirs, Error, direct};
-use vekalumist::{Entry, Facts, Layout};
+use vekalumist::{Entry, Facts, Layout, NodeId};
 
 use crate::measure::Side;
 
@@ -40,16 +40,18 @@ pub fn scan(bytes: &[u8]) -> Result<Scanned, Error> {
 /// Their entry as ours.
 pub fn ours(entry: Theirs) -> Entry {
     match entry {
-        Theirs::Join { left_child_id, right_child_id } => {
-            Entry::Join { left_child_id, right_child_id }
-        }
-        Theirs::Split { if_branch_id, else_branch_id } => {
-            Entry::Split { if_branch_id, else_branch_id }
-        }
-        Theirs::Loop { body_id } => Entry::Loop { body_id },
+        Theirs::Join { left_child_id, right_child_id } => Entry::Join {
+            left_child_id: NodeId(left_child_id),
+            right_child_id: NodeId(right_child_id),
+        },
+        Theirs::Split { if_branch_id, else_branch_id } => Entry::Split {
+            if_branch_id: NodeId(if_branch_id),
+            else_branch_id: NodeId(else_branch_id),
+        },
+        Theirs::Loop { body_id } => Entry::Loop { body_id: NodeId(body_id) },
         Theirs::Block { ops_offset } => Entry::Block { ops_offset },
-        Theirs::Call { callee_id } => Entry::Call { callee_id },
-        Theirs::SysCall { callee_id } => Entry::SysCall { callee_id },
+        Theirs::Call { callee_id } => Entry::Call { callee_id: NodeId(callee_id) },
+        Theirs::SysCall { callee_id } => Entry::SysCall { callee_id: NodeId(callee_id) },
         Theirs::Dyn => Entry::Dyn,
         Theirs::Dyncall => Entry::Dyncall,
         Theirs::External => Entry::External,

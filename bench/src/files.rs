@@ -1,7 +1,7 @@
 //! The writer. The published copies have none, so it stands beside a plain read of its parts only.
 use std::hint::black_box;
 
-use vekalumist::{Kind, Refusal, write};
+use vekalumist::{Kind, Place, Refusal, write};
 
 use crate::{
     input::{self, FACTS, Keys, Order, Parts},
@@ -41,7 +41,7 @@ fn write_row(table: &mut Table, n: usize, parts: &Parts, name: &'static str) {
 /// Parts whose last key is there before: all keys are looked at, and nothing is written.
 fn refused_row(table: &mut Table, n: usize, parts: &Parts, name: &'static str) {
     let mut out = vec![0u8; 8 * (parts.keys.len() + parts.lengths.len() + parts.values.len()) + 99];
-    let twice = Refusal { kind: Kind::Duplicate, place: parts.lengths.len() - 1 };
+    let twice = Refusal { kind: Kind::Duplicate, place: Place::Key(parts.lengths.len() - 1) };
     assert_eq!(write(&FACTS, &lent(parts), &mut out), Err(twice));
     timed(table, n, parts, name, out);
 }

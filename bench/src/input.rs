@@ -1,6 +1,6 @@
 //! Made-up files. They are written here and not by the writer under test, so that the writer's own
 //! output can be held against them.
-use vekalumist::Facts;
+use vekalumist::{Facts, NodeId};
 
 pub const FACTS: Facts =
     Facts { magic: *b"MAST", version: [0, 0, 1], hashless: 1, reserved: 0xfe, max_nodes: 1 << 30 };
@@ -55,7 +55,7 @@ fn push_count(value: u64, out: &mut Vec<u8>) {
 #[derive(Default)]
 pub struct Parts {
     pub flags: u8,
-    pub roots: Vec<u32>,
+    pub roots: Vec<NodeId>,
     pub blocks: Vec<u8>,
     pub words: Vec<u64>,
     pub external: Vec<u8>,
@@ -117,7 +117,7 @@ pub fn forest(nodes: usize, hashes: bool, order: Order) -> Parts {
     let externals = words.iter().filter(|w| *w >> 60 == 8).count();
     Parts {
         flags: u8::from(!hashes),
-        roots: vec![nodes as u32 - 1],
+        roots: vec![NodeId(nodes as u32 - 1)],
         blocks: vec![0xab; 7],
         external: digests(externals, &mut numbers),
         hashes: digests(if hashes { nodes - externals } else { 0 }, &mut numbers),
@@ -164,7 +164,7 @@ pub fn render(parts: &Parts) -> Vec<u8> {
     push_count((parts.words.len() - externals) as u64, &mut out);
     push_count(externals as u64, &mut out);
     push_count(parts.roots.len() as u64, &mut out);
-    out.extend(parts.roots.iter().flat_map(|r| r.to_le_bytes()));
+    out.extend(parts.roots.iter().flat_map(|r| r.0.to_le_bytes()));
     push_count(parts.blocks.len() as u64, &mut out);
     out.extend(&parts.blocks);
     out.extend(parts.words.iter().flat_map(|w| w.to_le_bytes()));

@@ -1,7 +1,7 @@
 //! The operations over the advice map: walk and lookup.
 use std::hint::black_box;
 
-use vekalumist::{Layout, Lookup, lookup, scan, values, walk_map};
+use vekalumist::{Layout, Lookup, Word, lookup, scan, values, walk_map};
 
 use crate::{
     beside::{self, Map},
@@ -45,8 +45,9 @@ impl Made {
         assert!(self.table.iter().map(key_at).is_sorted(), "keys rise");
         for &key in &self.keys {
             let theirs = map.get(key).expect("own file").expect("own key");
-            let part =
-                values(s, &self.table, self.entries, key).expect("own file").expect("own key");
+            let part = values(s, &self.table, self.entries, Word(key))
+                .expect("own file")
+                .expect("own key");
             assert!(words(part).into_iter().eq(theirs.numbers()), "values of {key:?}");
         }
     }
@@ -72,10 +73,11 @@ fn walk_row(table: &mut Table, made: &Made, name: &'static str) {
 
 /// The places of the keys asked for, and of their values, in the order in which they are asked for.
 fn places(made: &Made, order: &[usize]) -> (Vec<usize>, Vec<usize>) {
-    let found = |&i: &usize| match lookup(&made.bytes, &made.table, made.entries, made.keys[i]) {
-        Ok(Lookup::Found { values, len, .. }) => (values.0, len),
-        _ => panic!("own key"),
-    };
+    let found =
+        |&i: &usize| match lookup(&made.bytes, &made.table, made.entries, Word(made.keys[i])) {
+            Ok(Lookup::Found { values, len, .. }) => (values.0, len),
+            _ => panic!("own key"),
+        };
     let rows: Vec<(usize, usize)> = order.iter().map(found).collect();
     let keys = rows.iter().map(|(at, _)| at - 33).collect();
     let values = rows.iter().flat_map(|&(at, n)| (0..n).map(move |k| at + 8 * k)).collect();
@@ -94,7 +96,7 @@ fn lookup_row(table: &mut Table, made: &Made) {
         [
             Side::new(|| {
                 for key in &asked {
-                    black_box(lookup(s, &made.table, made.entries, *key).is_ok());
+                    black_box(lookup(s, &made.table, made.entries, Word(*key)).is_ok());
                 }
             }),
             Side::new(|| {

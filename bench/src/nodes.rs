@@ -1,7 +1,7 @@
 //! The operations over nodes: scan, slot table, entries and digests by index.
 use std::hint::black_box;
 
-use vekalumist::{Layout, digest_with_table, entry, scan, slots};
+use vekalumist::{Forest as Ours, Layout, NodeId, Word, digest_with_table, entry, scan, slots};
 
 use crate::{
     beside::{self, Forest, Scanned},
@@ -50,7 +50,7 @@ impl Made {
             let theirs = scanned.entry(&self.bytes, i).expect("own file");
             assert_eq!(entry(&self.bytes, &self.layout, i), Ok(beside::ours(theirs)), "entry {i}");
             let digest = digest_with_table(&self.bytes, &self.layout, i, &self.table).ok();
-            assert_eq!(digest, forest.digest(i).ok(), "digest {i}");
+            assert_eq!(digest, forest.digest(i).ok().map(Word), "digest {i}");
         }
         (scanned, forest)
     }
@@ -102,7 +102,8 @@ fn entry_rows(table: &mut Table, made: &Made, scanned: &Scanned, turn: &[usize],
     let places: Vec<usize> = random.iter().map(|i| 8 * i).collect();
     let whole = || plain::sum(black_box(made.entries()));
     let picked = || plain::gather(black_box(made.entries()), &places);
-    let ours = |order| Side::new(move || each(order, |i| entry(s, &made.layout, i)));
+    let held = Ours::with_layout(s, made.layout);
+    let ours = |order| Side::new(move || each(order, |i| held.entry(NodeId(i as u32))));
     let rust = |order| Side::new(move || each(order, |i| scanned.entry(s, i)));
     table.add(Row::new("entry, in turn", made.nodes), [ours(turn), rust(turn), Side::new(whole)]);
     table.add(
@@ -118,9 +119,9 @@ fn digest_rows(table: &mut Table, made: &Made, forest: &Forest, turn: &[usize], 
     let whole = || plain::sum(black_box(made.entries())) ^ plain::sum(made.all_digests());
     let picked =
         || plain::gather(black_box(made.entries()), &places) ^ plain::gather_rows(s, &rows);
-    let ours = |order| {
-        Side::new(move || each(order, |i| digest_with_table(s, &made.layout, i, &made.table)))
-    };
+    let mut own = made.table.clone();
+    let held = Ours::with_layout(s, made.layout).slots(&mut own).expect("own file");
+    let ours = |order| Side::new(move || each(order, |i| held.digest(NodeId(i as u32))));
     let rust = |order| Side::new(move || each(order, |i| forest.digest(i)));
     table.add(Row::new("digest, in turn", made.nodes), [ours(turn), rust(turn), Side::new(whole)]);
     table.add(

@@ -1,13 +1,21 @@
-//! layout FILE: where a file's entries and advice map lie, or why it is refused.
-use vekalumist::{places, scan, AdviceMap, Facts};
+//! layout FILE: where a file's roots, entries and advice values lie, or why it is refused.
+use vekalumist::{Facts, Forest, ScanOptions};
 
 fn main() -> Result<(), Box<dyn std::error::Error>> {
     let facts = Facts { magic: *b"MAST", version: [0, 0, 2], hashless: 0x02, reserved: 0xFC, max_nodes: (1 << 30) - 1 };
     let file = std::fs::read(std::env::args().nth(1).ok_or("usage: layout FILE")?)?;
-    let layout = scan(&file, &facts, true, None)?; // or a refusal with its number and place
-    println!("{} nodes, entries at byte {}", layout.node_count, layout.node_entry_offset.0);
-    let mut keys = vec![0; places(&file, layout.advice_map_offset)]; // lent: a place for each entry of the map
-    let map = AdviceMap::walk(&file, layout.advice_map_offset, &mut keys)?;
-    println!("{} entries in the map, which ends at byte {}", map.len(), map.end().0);
+    let forest = Forest::scan(&file, &facts, ScanOptions::new().allow_hashless())?; // or a refusal with its number and place
+    println!("{} nodes, entries at byte {}", forest.layout().node_count, forest.layout().node_entry_offset);
+    for root in forest.roots() {
+        let root = root?; // a NodeId
+        println!("root: node {root}, {}", forest.entry(root)?);
+    }
+    let mut keys = vec![0; forest.key_places()]; // lent: a place for each entry of the map
+    let map = forest.advice(&mut keys)?;
+    for entry in &map {
+        let entry = entry?; // its key, and its values as a part of the file
+        println!("{}: {} values at byte {}", entry.key, entry.values.len(), entry.values.offset());
+    }
+    println!("the map ends at byte {}, and {} bytes follow", map.end(), map.trailing());
     Ok(())
 }

@@ -1,19 +1,12 @@
-//! Types as rows of numbers, and back. The archive's promises say which numbers a row can hold; others mean another archive.
+//! Types as rows of numbers, and back; and what the places of each function count. The archive's promises say which numbers a row can hold;
+//! others mean another archive, and become [`Kind::Unknown`].
 
-use crate::{ByteOffset, Count, Entry, Facts, Kind, Lookup, MapEntry, Refusal, Walked};
+use crate::{ByteOffset, Count, Entry, Facts, Kind, Lookup, MapEntry, Place, Refusal, Walked, Word};
 
-/// Ends the program: the linked archive does not keep the promises that this crate was written for.
+/// An answer that holds a number which no answer of this version holds.
 #[cold]
-pub(crate) fn broken(what: &str, number: u64) -> ! {
-    panic!("the linked libvekalumist.a is broken or of another version: {what} is {number}")
-}
-
-#[inline]
-pub(crate) fn refusal(number: u64, place: u64) -> Refusal {
-    match Kind::of_number(number) {
-        Some(kind) => Refusal { kind, place: place as usize },
-        None => broken("a refusal's number", number),
-    }
+pub(crate) fn unknown(number: u64) -> Refusal {
+    Refusal { kind: Kind::Unknown(number), place: Place::Number(0) }
 }
 
 #[inline]
@@ -24,12 +17,12 @@ pub(crate) fn count([value, len, next]: [u64; 3]) -> Count {
 #[inline]
 pub(crate) fn of_entry(entry: Entry) -> [u64; 3] {
     let (kind, a, b) = match entry {
-        Entry::Join { left_child_id, right_child_id } => (0, left_child_id, right_child_id),
-        Entry::Split { if_branch_id, else_branch_id } => (1, if_branch_id, else_branch_id),
-        Entry::Loop { body_id } => (2, body_id, 0),
+        Entry::Join { left_child_id, right_child_id } => (0, left_child_id.0, right_child_id.0),
+        Entry::Split { if_branch_id, else_branch_id } => (1, if_branch_id.0, else_branch_id.0),
+        Entry::Loop { body_id } => (2, body_id.0, 0),
         Entry::Block { ops_offset } => (3, ops_offset, 0),
-        Entry::Call { callee_id } => (4, callee_id, 0),
-        Entry::SysCall { callee_id } => (5, callee_id, 0),
+        Entry::Call { callee_id } => (4, callee_id.0, 0),
+        Entry::SysCall { callee_id } => (5, callee_id.0, 0),
         Entry::Dyn => (6, 0, 0),
         Entry::Dyncall => (7, 0, 0),
         Entry::External => (8, 0, 0),
@@ -59,7 +52,7 @@ pub(crate) fn walked([entries, end, trailing]: [u64; 3]) -> Walked {
 
 #[inline]
 pub(crate) fn map_entry([a, b, c, d, len, values]: [u64; 6]) -> MapEntry {
-    MapEntry { key: [a, b, c, d], len: len as usize, values: ByteOffset(values as usize) }
+    MapEntry { key: Word([a, b, c, d]), len: len as usize, values: ByteOffset(values as usize) }
 }
 
 #[inline]
@@ -71,13 +64,69 @@ pub(crate) fn looked([there, values, len, compared]: [u64; 4]) -> Lookup {
     }
 }
 
+/// A part of the file by its place and its bytes.
 #[inline]
-pub(crate) fn part(s: &[u8], [there, at, bytes]: [u64; 3]) -> Option<&[u8]> {
-    if there == 0 {
-        return None;
+pub(crate) fn part(s: &[u8], at: usize, bytes: usize) -> Result<&[u8], Refusal> {
+    s.get(at..).and_then(|from| from.get(..bytes)).ok_or_else(|| unknown(at as u64))
+}
+
+/// What the places of each function count, by kind where it is not one for all.
+pub(crate) mod places {
+    use super::{ByteOffset, Kind, Place};
+
+    #[inline]
+    pub(crate) fn bytes(_: Kind, at: usize) -> Place {
+        Place::Byte(ByteOffset(at))
     }
-    let part = s.get(at as usize..).and_then(|from| from.get(..bytes as usize));
-    Some(part.unwrap_or_else(|| broken("the place of a part outside the file", at)))
+
+    #[inline]
+    pub(crate) fn nodes(_: Kind, index: usize) -> Place {
+        Place::Node(index)
+    }
+
+    #[inline]
+    pub(crate) fn roots(_: Kind, index: usize) -> Place {
+        Place::Root(index)
+    }
+
+    #[inline]
+    pub(crate) fn of_a_word(_: Kind, number: usize) -> Place {
+        Place::Number(number)
+    }
+
+    pub(crate) fn of_slots(kind: Kind, number: usize) -> Place {
+        match kind {
+            Kind::TooMany | Kind::Budget | Kind::Room => Place::Number(number),
+            _ => Place::Node(number),
+        }
+    }
+
+    #[inline]
+    pub(crate) fn of_a_lookup(kind: Kind, number: usize) -> Place {
+        match kind {
+            Kind::Room => Place::Rows(number),
+            _ => bytes(kind, number),
+        }
+    }
+
+    #[inline]
+    pub(crate) fn of_a_key(kind: Kind, number: usize) -> Place {
+        match kind {
+            Kind::Index => Place::Key(number),
+            _ => bytes(kind, number),
+        }
+    }
+
+    pub(crate) fn of_the_writer(kind: Kind, number: usize) -> Place {
+        match kind {
+            Kind::Flags => bytes(kind, number),
+            Kind::Tag | Kind::Payload => Place::Node(number),
+            Kind::Parts => Place::Part(number),
+            Kind::Element | Kind::Duplicate => Place::Key(number),
+            Kind::Room => Place::Bytes(number),
+            _ => Place::Number(number),
+        }
+    }
 }
 
 #[cfg(test)]
@@ -85,22 +134,16 @@ mod tests {
     use super::*;
 
     #[test]
-    fn each_number_is_a_kind() {
-        for number in 1..=23 {
-            assert_eq!(u64::from(refusal(number, 5).kind.number()), number);
-        }
-        assert_eq!(refusal(23, u64::MAX), Refusal { kind: Kind::Parts, place: usize::MAX });
-    }
-
-    #[test]
-    #[should_panic(expected = "the linked libvekalumist.a is broken")]
-    fn another_number_is_a_broken_archive() {
-        refusal(24, 0);
-    }
-
-    #[test]
     fn facts_stand_in_their_order() {
         let facts = Facts { magic: [1, 2, 3, 4], version: [5, 6, 7], hashless: 8, reserved: 9, max_nodes: 10 };
         assert_eq!(marks(&facts), [1, 2, 3, 4, 5, 6, 7, 8, 9]);
+    }
+
+    #[test]
+    fn a_part_outside_the_file_is_an_error() {
+        assert_eq!(part(&[1, 2, 3], 1, 2), Ok(&[2, 3][..]));
+        for (at, bytes) in [(1, 3), (4, 0), (usize::MAX, 1), (0, usize::MAX)] {
+            assert_eq!(part(&[1, 2, 3], at, bytes), Err(unknown(at as u64)));
+        }
     }
 }

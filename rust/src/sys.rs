@@ -1,10 +1,11 @@
 //! The archive's functions, as C declares them (include/vekalumist_raw.h), and the only unsafe calls of this crate.
 #![allow(unsafe_code)]
 
-use std::mem::{self, offset_of, size_of, MaybeUninit};
-use std::{array, ptr};
+use core::mem::{self, offset_of, size_of, MaybeUninit};
+use core::{array, ptr};
 
-use crate::{rows, ByteOffset, Count, Entry, Facts, HashSection, Layout, Lookup, MapEntry, Parts, Refusal, Walked};
+use crate::rows::{self, places};
+use crate::{ByteOffset, Count, Entry, Facts, HashSection, Kind, Layout, Lookup, MapEntry, NodeId, Parts, Place, Refusal, Walked, Word};
 
 // A slice crosses as a pointer, which is never null, and its number of elements; a row of numbers and a single number as a pointer. The
 // return is 0 and the answer is stored, or it is a refusal's number and its place is.
@@ -152,23 +153,27 @@ impl<const N: usize> Row for [u64; N] {
     }
 }
 
-/// Lends memory for the answer and for a refusal's place, and reads the one that was stored.
+/// Lends memory for the answer and for a refusal's place, and reads the one that was stored. `placed` says what the place counts.
 #[inline(always)]
-fn told<R: Row, T>(call: impl FnOnce(*mut R, *mut u64) -> u64, says: impl FnOnce(R) -> T) -> Result<T, Refusal> {
+fn told<R: Row>(placed: impl FnOnce(Kind, usize) -> Place, call: impl FnOnce(*mut R, *mut u64) -> u64) -> Result<R, Refusal> {
     let mut row = MaybeUninit::<R>::uninit();
-    held(|place| call(row.as_mut_ptr(), place))?;
+    held(placed, |place| call(row.as_mut_ptr(), place))?;
     // SAFETY: where nothing is refused, the archive stored the whole row.
-    Ok(says(unsafe { R::taken(&row) }))
+    Ok(unsafe { R::taken(&row) })
 }
 
 /// The same of a call that answers nothing but that it holds.
 #[inline(always)]
-fn held(call: impl FnOnce(*mut u64) -> u64) -> Result<(), Refusal> {
+fn held(placed: impl FnOnce(Kind, usize) -> Place, call: impl FnOnce(*mut u64) -> u64) -> Result<(), Refusal> {
     let mut place = MaybeUninit::<u64>::uninit();
     match call(place.as_mut_ptr()) {
         0 => Ok(()),
-        // SAFETY: with a refusal's number the archive stored its place.
-        number => Err(rows::refusal(number, unsafe { place.assume_init() })),
+        number => {
+            let kind = Kind::of_number(number);
+            // SAFETY: with a refusal's number the archive stored its place.
+            let place = unsafe { place.assume_init() };
+            Err(Refusal { kind, place: placed(kind, place as usize) })
+        }
     }
 }
 
@@ -179,12 +184,12 @@ fn held(call: impl FnOnce(*mut u64) -> u64) -> Result<(), Refusal> {
 /// The entry of a row. It is made without a branch on its kind: the archive has just taken one, and entries in any order let a second one guess
 /// wrong as often (4 ns).
 #[inline]
-fn entry_of([kind, first, second]: [u64; 3]) -> Entry {
+fn entry_of([kind, first, second]: [u64; 3]) -> Result<Entry, Refusal> {
     if kind > 8 || (first | second) > u64::from(u32::MAX) {
-        rows::broken("the kind of an entry, with its numbers,", kind);
+        return Err(rows::unknown(kind));
     }
     // SAFETY: of an enum that is repr(u32) the tag lies first, 0 to 8 in the order of the variants, and a variant's own numbers follow it.
-    unsafe { mem::transmute::<[u32; 3], Entry>([kind as u32, first as u32, second as u32]) }
+    Ok(unsafe { mem::transmute::<[u32; 3], Entry>([kind as u32, first as u32, second as u32]) })
 }
 
 pub(crate) fn version() -> u64 {
@@ -193,7 +198,7 @@ pub(crate) fn version() -> u64 {
 
 #[inline]
 pub(crate) fn read_count(s: &[u8], at: usize) -> Result<Count, Refusal> {
-    told(|row, place| unsafe { veka_raw_read_count(s.as_ptr(), s.len(), at, row, place) }, rows::count)
+    told(places::bytes, |row, place| unsafe { veka_raw_read_count(s.as_ptr(), s.len(), at, row, place) }).map(rows::count)
 }
 
 #[inline]
@@ -203,69 +208,69 @@ pub(crate) fn shortest_len(v: u64) -> u64 {
 
 #[inline]
 pub(crate) fn write_count(out: &mut [u8], at: usize, v: u64) -> Result<u64, Refusal> {
-    told(|row, place| unsafe { veka_raw_write_count(out.as_mut_ptr(), out.len(), at, v, row, place) }, |next| next)
+    told(places::bytes, |row, place| unsafe { veka_raw_write_count(out.as_mut_ptr(), out.len(), at, v, row, place) })
 }
 
 #[inline]
 pub(crate) fn decode_entry(word: u64) -> Result<Entry, Refusal> {
-    told(|row, place| unsafe { veka_decode_entry(word, row, place) }, entry_of)
+    told(places::of_a_word, |row, place| unsafe { veka_decode_entry(word, row, place) }).and_then(entry_of)
 }
 
 #[inline]
 pub(crate) fn encode_entry(entry: &[u64; 3]) -> Result<u64, Refusal> {
-    told(|row, place| unsafe { veka_encode_entry(entry, row, place) }, |word| word)
+    told(places::of_a_word, |row, place| unsafe { veka_encode_entry(entry, row, place) })
 }
 
 #[inline]
 pub(crate) fn flags(s: &[u8]) -> Result<u8, Refusal> {
-    told(|row, place| unsafe { veka_raw_flags(s.as_ptr(), s.len(), row, place) }, |flags| flags)
+    told(places::bytes, |row, place| unsafe { veka_raw_flags(s.as_ptr(), s.len(), row, place) })
 }
 
 pub(crate) fn scan(s: &[u8], facts: &Facts, allow: bool, bound: &[u64; 2]) -> Result<Layout, Refusal> {
     let marks = rows::marks(facts);
-    told(|row, place| unsafe { veka_raw_scan(s.as_ptr(), s.len(), &marks, facts.max_nodes, allow, bound, row, place) }, |layout| layout)
+    told(places::bytes, |row, place| unsafe { veka_raw_scan(s.as_ptr(), s.len(), &marks, facts.max_nodes, allow, bound, row, place) })
 }
 
 #[inline]
-pub(crate) fn root(s: &[u8], layout: &Layout, index: usize) -> Result<u32, Refusal> {
-    told(|row, place| unsafe { veka_raw_root(s.as_ptr(), s.len(), layout, index, row, place) }, |id| id)
+pub(crate) fn root(s: &[u8], layout: &Layout, index: usize) -> Result<NodeId, Refusal> {
+    told(places::roots, |row, place| unsafe { veka_raw_root(s.as_ptr(), s.len(), layout, index, row, place) }).map(NodeId)
 }
 
 #[inline]
 pub(crate) fn entry(s: &[u8], layout: &Layout, index: usize) -> Result<Entry, Refusal> {
-    told(|row, place| unsafe { veka_raw_entry(s.as_ptr(), s.len(), layout, index, row, place) }, entry_of)
+    told(places::nodes, |row, place| unsafe { veka_raw_entry(s.as_ptr(), s.len(), layout, index, row, place) }).and_then(entry_of)
 }
 
 pub(crate) fn children(s: &[u8], layout: &Layout) -> Result<(), Refusal> {
-    held(|place| unsafe { veka_raw_children(s.as_ptr(), s.len(), layout, place) })
+    held(places::nodes, |place| unsafe { veka_raw_children(s.as_ptr(), s.len(), layout, place) })
 }
 
 pub(crate) fn order(s: &[u8], layout: &Layout) -> Result<(), Refusal> {
-    held(|place| unsafe { veka_raw_order(s.as_ptr(), s.len(), layout, place) })
+    held(places::nodes, |place| unsafe { veka_raw_order(s.as_ptr(), s.len(), layout, place) })
 }
 
 pub(crate) fn strict(s: &[u8], layout: &Layout) -> Result<(), Refusal> {
-    held(|place| unsafe { veka_raw_strict(s.as_ptr(), s.len(), layout, place) })
+    held(places::nodes, |place| unsafe { veka_raw_strict(s.as_ptr(), s.len(), layout, place) })
 }
 
 #[inline]
-pub(crate) fn digest(s: &[u8], layout: &Layout, index: usize) -> Result<[u64; 4], Refusal> {
-    told(|row, place| unsafe { veka_raw_digest(s.as_ptr(), s.len(), layout, index, row, place) }, |word| word)
+pub(crate) fn digest(s: &[u8], layout: &Layout, index: usize) -> Result<Word, Refusal> {
+    told(places::nodes, |row, place| unsafe { veka_raw_digest(s.as_ptr(), s.len(), layout, index, row, place) }).map(Word)
 }
 
 #[inline]
-pub(crate) fn digest_with_table(s: &[u8], layout: &Layout, index: usize, table: &[u32]) -> Result<[u64; 4], Refusal> {
-    told(
-        |row, place| unsafe { veka_raw_digest_with_table(s.as_ptr(), s.len(), layout, index, table.as_ptr(), table.len(), row, place) },
-        |word| word,
-    )
+pub(crate) fn digest_with_table(s: &[u8], layout: &Layout, index: usize, table: &[u32]) -> Result<Word, Refusal> {
+    told(places::nodes, |row, place| unsafe {
+        veka_raw_digest_with_table(s.as_ptr(), s.len(), layout, index, table.as_ptr(), table.len(), row, place)
+    })
+    .map(Word)
 }
 
 pub(crate) fn slots(s: &[u8], layout: &Layout, bound: &[u64; 2], table: &mut [u32]) -> Result<Option<usize>, Refusal> {
-    told(
-        |row, place| unsafe { veka_raw_slots(s.as_ptr(), s.len(), layout, bound, table.as_mut_ptr(), table.len(), row, place) },
-        rows::bound,
-    )
+    told(places::of_slots, |row, place| unsafe {
+        veka_raw_slots(s.as_ptr(), s.len(), layout, bound, table.as_mut_ptr(), table.len(), row, place)
+    })
+    .map(rows::bound)
 }
 
 #[inline]
@@ -274,66 +279,65 @@ pub(crate) fn places(s: &[u8], at: usize) -> u64 {
 }
 
 pub(crate) fn walk(s: &[u8], at: usize, keys: &mut [u64]) -> Result<Walked, Refusal> {
-    told(|row, place| unsafe { veka_raw_walk(s.as_ptr(), s.len(), at, keys.as_mut_ptr(), keys.len(), row, place) }, rows::walked)
+    told(places::bytes, |row, place| unsafe { veka_raw_walk(s.as_ptr(), s.len(), at, keys.as_mut_ptr(), keys.len(), row, place) })
+        .map(rows::walked)
 }
 
 #[inline]
-pub(crate) fn key(s: &[u8], keys: &[u64], index: usize) -> Result<[u64; 4], Refusal> {
-    told(|row, place| unsafe { veka_raw_key(s.as_ptr(), s.len(), keys.as_ptr(), keys.len(), index, row, place) }, |word| word)
+pub(crate) fn key(s: &[u8], keys: &[u64], index: usize) -> Result<Word, Refusal> {
+    told(places::of_a_key, |row, place| unsafe { veka_raw_key(s.as_ptr(), s.len(), keys.as_ptr(), keys.len(), index, row, place) })
+        .map(Word)
 }
 
 #[inline]
 pub(crate) fn map_entry(s: &[u8], keys: &[u64], index: usize) -> Result<MapEntry, Refusal> {
-    told(|row, place| unsafe { veka_raw_map_entry(s.as_ptr(), s.len(), keys.as_ptr(), keys.len(), index, row, place) }, rows::map_entry)
+    told(places::of_a_key, |row, place| unsafe { veka_raw_map_entry(s.as_ptr(), s.len(), keys.as_ptr(), keys.len(), index, row, place) })
+        .map(rows::map_entry)
 }
 
 #[inline]
 pub(crate) fn lookup(s: &[u8], keys: &[u64], n: usize, key: &[u64; 4]) -> Result<Lookup, Refusal> {
-    told(|row, place| unsafe { veka_raw_lookup(s.as_ptr(), s.len(), keys.as_ptr(), keys.len(), n, key, row, place) }, rows::looked)
+    told(places::of_a_lookup, |row, place| unsafe { veka_raw_lookup(s.as_ptr(), s.len(), keys.as_ptr(), keys.len(), n, key, row, place) })
+        .map(rows::looked)
 }
 
+/// Whether the key is there, and the place and the bytes of its values.
 #[inline]
-pub(crate) fn values<'a>(s: &'a [u8], keys: &[u64], n: usize, key: &[u64; 4]) -> Result<Option<&'a [u8]>, Refusal> {
-    told(
-        |row, place| unsafe { veka_raw_values(s.as_ptr(), s.len(), keys.as_ptr(), keys.len(), n, key, row, place) },
-        |row| rows::part(s, row),
-    )
+pub(crate) fn values(s: &[u8], keys: &[u64], n: usize, key: &[u64; 4]) -> Result<[u64; 3], Refusal> {
+    told(places::of_a_lookup, |row, place| unsafe { veka_raw_values(s.as_ptr(), s.len(), keys.as_ptr(), keys.len(), n, key, row, place) })
 }
 
 pub(crate) fn write(facts: &Facts, parts: &Parts<'_>, order: &[u64], out: &mut [u8]) -> Result<u64, Refusal> {
     let marks = rows::marks(facts);
-    told(
-        |row, place| unsafe {
-            veka_raw_write(
-                &marks,
-                facts.max_nodes,
-                parts.flags,
-                parts.roots.as_ptr(),
-                parts.roots.len(),
-                parts.blocks.as_ptr(),
-                parts.blocks.len(),
-                parts.words.as_ptr(),
-                parts.words.len(),
-                parts.external.as_ptr(),
-                parts.external.len(),
-                parts.hashes.as_ptr(),
-                parts.hashes.len(),
-                parts.keys.as_ptr(),
-                parts.keys.len(),
-                parts.lengths.as_ptr(),
-                parts.lengths.len(),
-                parts.values.as_ptr(),
-                parts.values.len(),
-                order.as_ptr(),
-                order.len(),
-                out.as_mut_ptr(),
-                out.len(),
-                row,
-                place,
-            )
-        },
-        |size| size,
-    )
+    told(places::of_the_writer, |row, place| unsafe {
+        veka_raw_write(
+            &marks,
+            facts.max_nodes,
+            parts.flags,
+            parts.roots.as_ptr().cast(), // a NodeId is its number
+            parts.roots.len(),
+            parts.blocks.as_ptr(),
+            parts.blocks.len(),
+            parts.words.as_ptr(),
+            parts.words.len(),
+            parts.external.as_ptr(),
+            parts.external.len(),
+            parts.hashes.as_ptr(),
+            parts.hashes.len(),
+            parts.keys.as_ptr(),
+            parts.keys.len(),
+            parts.lengths.as_ptr(),
+            parts.lengths.len(),
+            parts.values.as_ptr(),
+            parts.values.len(),
+            order.as_ptr(),
+            order.len(),
+            out.as_mut_ptr(),
+            out.len(),
+            row,
+            place,
+        )
+    })
 }
 
 #[cfg(test)]
@@ -365,23 +369,29 @@ mod tests {
     #[test]
     fn an_entry_is_its_row() {
         for row in [[0, 1, 2], [1, 3, 4], [2, 5, 0], [3, 6, 0], [4, 7, 0], [5, 8, 0], [6, 0, 0], [7, 0, 0], [8, 0, 0]] {
-            assert_eq!(rows::of_entry(entry_of(row)), row);
+            assert_eq!(entry_of(row).map(rows::of_entry), Ok(row));
         }
-        let most = u32::MAX;
-        assert_eq!(entry_of([1, most.into(), 7]), Entry::Split { if_branch_id: most, else_branch_id: 7 });
-        assert_eq!(entry_of([5, most.into(), 7]), Entry::SysCall { callee_id: most });
+        let most = NodeId(u32::MAX);
+        assert_eq!(entry_of([1, u32::MAX.into(), 7]), Ok(Entry::Split { if_branch_id: most, else_branch_id: NodeId(7) }));
+        assert_eq!(entry_of([5, u32::MAX.into(), 7]), Ok(Entry::SysCall { callee_id: most }));
     }
 
     #[test]
-    #[should_panic(expected = "the linked libvekalumist.a is broken")]
-    fn another_kind_is_a_broken_archive() {
-        entry_of([9, 0, 0]);
+    fn a_row_that_no_archive_of_this_version_stores_is_an_error() {
+        for row in [[9, 0, 0], [u64::MAX, 0, 0], [2, 0, 1 << 32], [2, 1 << 32, 0]] {
+            assert_eq!(entry_of(row), Err(rows::unknown(row[0])));
+        }
     }
 
     #[test]
-    #[should_panic(expected = "the linked libvekalumist.a is broken")]
-    fn a_wide_number_is_a_broken_archive() {
-        entry_of([2, 0, 1 << 32]);
+    fn a_number_that_no_archive_of_this_version_returns_is_an_error() {
+        let call = |row: *mut u64, place: *mut u64| unsafe {
+            *row = 5;
+            *place = 6;
+            99
+        };
+        assert_eq!(told(places::bytes, call), Err(Refusal { kind: Kind::Unknown(99), place: Place::Byte(ByteOffset(6)) }));
+        assert_eq!(told(places::of_the_writer, call), Err(Refusal { kind: Kind::Unknown(99), place: Place::Number(6) }));
     }
 
     // The kinds and numbers that an Entry cannot hold.
@@ -409,27 +419,10 @@ mod tests {
             let layout = one_node(HashSection { has_node_hashes: flag, node_hash_offset: ByteOffset(8) });
             assert_eq!(layout.node_hash_offset(), Some(ByteOffset(8)));
             assert_eq!(layout, one_node(HashSection::at(ByteOffset(8))));
-            assert_eq!(digest(&file, &layout, 0), Ok([0x0707070707070707; 4]));
+            assert_eq!(digest(&file, &layout, 0), Ok(Word([0x0707070707070707; 4])));
         }
         let none = one_node(HashSection { has_node_hashes: 0, node_hash_offset: ByteOffset(8) });
         assert_eq!((none.node_hash_offset(), none), (None, one_node(HashSection::ABSENT)));
         assert!(digest(&file, &none, 0).is_err());
-    }
-
-    #[test]
-    fn a_claim_changes_no_answer() {
-        let facts = Facts { magic: *b"MAST", version: [0, 0, 2], hashless: 2, reserved: 0xFC, max_nodes: 100 };
-        let keys = [5, 0, 0, 0, 3, 0, 0, 0, 4, 0, 0, 0];
-        let twice = [5, 0, 0, 0, 3, 0, 0, 0, 5, 0, 0, 0];
-        let claims: [&[u64]; 7] = [&[], &[1, 2, 0], &[0, 1, 2], &[1, 1, 0], &[1, 2], &[1, 2, 3], &[u64::MAX; 3]];
-        let parts = Parts { keys: &keys, lengths: &[0; 3], ..Parts::default() };
-        let mut want = [0; 120];
-        let size = write(&facts, &parts, &[], &mut want).unwrap();
-        for claim in claims {
-            let mut out = [0; 120];
-            assert_eq!((write(&facts, &parts, claim, &mut out), out), (Ok(size), want), "{claim:?}");
-            let refused = write(&facts, &Parts { keys: &twice, ..parts }, claim, &mut out);
-            assert_eq!((refused, out), (Err(rows::refusal(19, 2)), want), "{claim:?}");
-        }
     }
 }

@@ -7,44 +7,43 @@ use vekalumist::*;
 #[test]
 fn p10_has_the_known_layout() {
     let file = sample("p10");
-    let layout = Layout {
-        node_count: 3,
-        internal_node_count: Slot(2),
-        external_node_count: Slot(1),
-        roots_count: 1,
-        roots_offset: ByteOffset(11),
-        basic_block_offset: ByteOffset(16),
-        basic_block_len: 1,
-        node_entry_offset: ByteOffset(17),
-        external_digest_offset: ByteOffset(41),
-        node_hashes: HashSection::ABSENT,
-        advice_map_offset: ByteOffset(73),
-    };
+    let layout = with(Layout::default(), |layout| {
+        layout.node_count = 3;
+        layout.internal_node_count = Slot(2);
+        layout.external_node_count = Slot(1);
+        layout.roots_count = 1;
+        layout.roots_offset = ByteOffset(11);
+        layout.basic_block_offset = ByteOffset(16);
+        layout.basic_block_len = 1;
+        layout.node_entry_offset = ByteOffset(17);
+        layout.external_digest_offset = ByteOffset(41);
+        layout.node_hashes = HashSection::ABSENT;
+        layout.advice_map_offset = ByteOffset(73);
+    });
     assert_eq!(scan(&file, &FACTS, true, None), Ok(layout));
     assert_eq!(scan(&file, &FACTS, true, Some(57)), Ok(layout)); // 1 of blocks, 24 of entries, 32 of digests
-    assert_eq!(scan(&file, &FACTS, true, Some(56)), no(Kind::Budget, 15));
-    assert_eq!(scan(&file, &FACTS, false, None), no(Kind::Hashless, 4));
+    assert_eq!(scan(&file, &FACTS, true, Some(56)), no(Kind::Budget, byte(15)));
+    assert_eq!(scan(&file, &FACTS, false, None), no(Kind::Hashless, byte(4)));
 }
 
 #[test]
 fn p10_has_the_known_nodes() {
     let file = sample("p10");
     let layout = scanned(&file);
-    assert_eq!(root(&file, &layout, 0), Ok(2));
+    assert_eq!(root(&file, &layout, 0), Ok(NodeId(2)));
     assert_eq!(entry(&file, &layout, 0), Ok(Entry::External));
     assert_eq!(entry(&file, &layout, 1), Ok(Entry::Block { ops_offset: 0 }));
-    assert_eq!(entry(&file, &layout, 2), Ok(Entry::Join { left_child_id: 0, right_child_id: 1 }));
+    assert_eq!(entry(&file, &layout, 2), Ok(Entry::Join { left_child_id: NodeId(0), right_child_id: NodeId(1) }));
     assert_eq!(children(&file, &layout), Ok(()));
     assert_eq!(order(&file, &layout), Ok(()));
     assert_eq!(strict(&file, &layout), Ok(()));
-    assert_eq!(digest(&file, &layout, 0), Ok([0; 4]));
-    assert_eq!(digest(&file, &layout, 1), no(Kind::NoHash, 1));
-    assert_eq!(digest(&file, &layout, 2), no(Kind::NoHash, 2));
+    assert_eq!(digest(&file, &layout, 0), Ok(Word([0; 4])));
+    assert_eq!(digest(&file, &layout, 1), no(Kind::NoHash, Node(1)));
+    assert_eq!(digest(&file, &layout, 2), no(Kind::NoHash, Node(2)));
     let mut table = [7; 3];
     assert_eq!(slots(&file, &layout, None, &mut table), Ok(None));
     assert_eq!(table, [0, 0, 1]);
-    let map = walk_map(&file, layout.advice_map_offset, &mut []);
-    assert_eq!(map, Ok(Walked { entries: 0, end: ByteOffset(74), trailing: 0 }));
+    assert_eq!(walked(walk_map(&file, layout.advice_map_offset, &mut [])), Ok((0, 74, 0)));
 }
 
 #[test]
@@ -54,7 +53,7 @@ fn p10_with_hashes_has_them_before_the_map() {
     assert_eq!(layout.node_hash_offset(), Some(ByteOffset(73)));
     assert_eq!(layout.node_hashes, HashSection::at(ByteOffset(73)));
     assert_eq!(layout.advice_map_offset, ByteOffset(137));
-    assert_eq!(digest(&file, &layout, 2), Ok([0; 4]));
+    assert_eq!(digest(&file, &layout, 2), Ok(Word([0; 4])));
 }
 
 #[test]
@@ -66,7 +65,7 @@ fn digests_lie_in_node_order_within_their_kind() {
         ..Parts::default()
     });
     let layout = scanned(&file);
-    let first = |index| digest(&file, &layout, index).map(|word| word[0]);
+    let first = |index| digest(&file, &layout, index).map(|word| word.0[0]);
     assert_eq!([first(0), first(1), first(2), first(3)], [Ok(20), Ok(10), Ok(21), Ok(11)]);
 }
 
@@ -75,57 +74,35 @@ fn the_sample_map_is_walked_and_looked_up() {
     let file = sample("advice");
     let layout = scanned(&file);
     let mut keys = [9; 4];
-    let walked = walk_map(&file, layout.advice_map_offset, &mut keys);
-    assert_eq!(walked, Ok(Walked { entries: 2, end: ByteOffset(file.len()), trailing: 0 }));
+    assert_eq!(walked(walk_map(&file, layout.advice_map_offset, &mut keys)), Ok((2, file.len(), 0)));
     assert_eq!(keys, [195, 138, 9, 9]); // the second key is the lower one
-    let look = |key| lookup(&file, &keys, 2, key);
+    let look = |key| lookup(&file, &keys, 2, Word(key));
     assert_eq!(look([1, 0, 0, 0]), Ok(Lookup::Found { values: ByteOffset(171), len: 3, compared: 1 }));
     assert_eq!(look([0, 2, 0, 0]), Ok(Lookup::Found { values: ByteOffset(228), len: 0, compared: 2 }));
     assert_eq!(look([0, 1, 0, 0]), Ok(Lookup::Absent { compared: 2 }));
     assert_eq!(look([u64::MAX; 4]), Ok(Lookup::Absent { compared: 1 }));
 }
 
-#[test]
-fn a_map_that_is_held_with_its_table() {
-    let file = sample("advice");
-    let mut keys = [0; 2];
-    let map = AdviceMap::walk(&file, scanned(&file).advice_map_offset, &mut keys).unwrap();
-    assert_eq!((map.len(), map.is_empty(), map.end()), (2, false, ByteOffset(228)));
-    assert_eq!(map.lookup([1, 0, 0, 0]), Ok(Lookup::Found { values: ByteOffset(171), len: 3, compared: 1 }));
-    assert_eq!(map.lookup([2, 0, 0, 0]), Ok(Lookup::Absent { compared: 1 }));
-    assert_eq!((map.key(0), map.key(1), map.key(2)), (Ok([0, 2, 0, 0]), Ok([1, 0, 0, 0]), no(Kind::Index, 2)));
-    assert_eq!(map.entry(1), Ok(MapEntry { key: [1, 0, 0, 0], len: 3, values: ByteOffset(171) }));
-    let empty = AdviceMap::walk(&[1], ByteOffset(0), &mut []).unwrap();
-    assert!(empty.is_empty());
-    let short = AdviceMap::walk(&file, ByteOffset(usize::MAX), &mut []).unwrap_err();
-    assert_eq!((short.kind, short.place), (Kind::Short, usize::MAX));
-}
-
-/// The numbers of 8 bytes each.
-fn numbers(bytes: &[u8]) -> Vec<u64> {
-    bytes.chunks_exact(8).map(|chunk| u64::from_le_bytes(chunk.try_into().unwrap())).collect()
-}
-
 /// Reads a file's parts with the readers alone, and writes them.
 fn written_again(file: &[u8]) -> Vec<u8> {
-    let layout = scanned(file);
-    let roots: Vec<u32> = (0..layout.roots_count).map(|i| root(file, &layout, i).unwrap()).collect();
-    let word = |i| encode_entry(entry(file, &layout, i).unwrap()).unwrap();
-    let words: Vec<u64> = (0..layout.node_count).map(word).collect();
+    let forest = Forest::scan(file, &FACTS, ScanOptions::new().allow_hashless()).unwrap();
+    let layout = forest.layout();
+    let roots: Vec<NodeId> = forest.roots().map(Result::unwrap).collect();
+    let words: Vec<u64> = forest.nodes().map(|node| encode_entry(node.unwrap().1).unwrap()).collect();
     let part = |from: ByteOffset, to: ByteOffset| &file[from.0..to.0];
     let hashes_at = layout.node_hash_offset().unwrap_or(layout.advice_map_offset);
-    let mut table = vec![0; places(file, layout.advice_map_offset)];
-    let map = AdviceMap::walk(file, layout.advice_map_offset, &mut table).unwrap();
-    let mut entries: Vec<MapEntry> = (0..map.len()).map(|i| map.entry(i).unwrap()).collect();
-    entries.sort_by_key(|entry| entry.values); // the order in the file
+    let mut table = vec![0; forest.key_places()];
+    let map = forest.advice(&mut table).unwrap();
+    let mut entries: Vec<AdviceEntry<'_>> = map.iter().map(Result::unwrap).collect();
+    entries.sort_by_key(|entry| entry.key_offset); // the order in the file
     let (mut keys, mut lengths, mut values) = (vec![], vec![], vec![]);
     for entry in entries {
-        keys.extend(entry.key);
-        lengths.push(entry.len as u64);
-        values.extend(numbers(&file[entry.values.0..][..8 * entry.len]));
+        keys.extend(entry.key.0);
+        lengths.push(entry.values.len() as u64);
+        values.extend(entry.values.iter());
     }
     made(&Parts {
-        flags: flags(file).unwrap(),
+        flags: forest.flags().unwrap(),
         roots: &roots,
         blocks: &file[layout.basic_block_offset.0..][..layout.basic_block_len],
         words: &words,
@@ -157,7 +134,7 @@ fn long_counts_are_written_shortest_and_entries_canonical() {
     shortest.extend([0; 32]);
     shortest.push(1);
     assert_eq!(written_again(&long), shortest);
-    assert_eq!(strict(&long, &scanned(&long)), no(Kind::NotCanonical, 0));
+    assert_eq!(strict(&long, &scanned(&long)), no(Kind::NotCanonical, Node(0)));
     assert_eq!(strict(&shortest, &scanned(&shortest)), Ok(()));
 }
 
@@ -180,22 +157,24 @@ fn counts_of_the_worked_examples() {
         assert_eq!(write_count(&mut out, ByteOffset(2), value), Ok(ByteOffset(2 + bytes.len())));
         assert_eq!(&out[2..2 + bytes.len()], bytes, "{value}");
         let next = ByteOffset(2 + bytes.len());
-        assert_eq!(read_count(&out, ByteOffset(2)), Ok(Count { value, len: bytes.len(), next }));
+        let count = read_count(&out, ByteOffset(2)).unwrap();
+        assert_eq!((count.value, count.len, count.next), (value, bytes.len(), next));
     }
-    assert_eq!(read_count(&[2, 0], ByteOffset(0)), Ok(Count { value: 0, len: 2, next: ByteOffset(2) }));
+    let long = read_count(&[2, 0], ByteOffset(0)).unwrap();
+    assert_eq!((long.value, long.len, long.next), (0, 2, ByteOffset(2)));
 }
 
 #[test]
 fn entries_of_every_kind() {
-    let most = (1 << 30) - 1;
+    let (most, id) = (NodeId((1 << 30) - 1), NodeId);
     let cases = [
-        (0x40000002, Entry::Join { left_child_id: 1, right_child_id: 2 }),
+        (0x40000002, Entry::Join { left_child_id: id(1), right_child_id: id(2) }),
         (0x0FFFFFFFFFFFFFFF, Entry::Join { left_child_id: most, right_child_id: most }),
-        (0x1000000000000003, Entry::Split { if_branch_id: 0, else_branch_id: 3 }),
-        (0x20000000FFFFFFFF, Entry::Loop { body_id: u32::MAX }),
+        (0x1000000000000003, Entry::Split { if_branch_id: id(0), else_branch_id: id(3) }),
+        (0x20000000FFFFFFFF, Entry::Loop { body_id: id(u32::MAX) }),
         (0x3000000000000007, Entry::Block { ops_offset: 7 }),
-        (0x4000000000000007, Entry::Call { callee_id: 7 }),
-        (0x5000000000000007, Entry::SysCall { callee_id: 7 }),
+        (0x4000000000000007, Entry::Call { callee_id: id(7) }),
+        (0x5000000000000007, Entry::SysCall { callee_id: id(7) }),
         (0x6000000000000000, Entry::Dyn),
         (0x7000000000000000, Entry::Dyncall),
         (0x8000000000000000, Entry::External),
@@ -205,15 +184,16 @@ fn entries_of_every_kind() {
         assert_eq!(encode_entry(entry), Ok(word), "{entry:?}");
     }
     assert_eq!(decode_entry(0x6000000000000001), Ok(Entry::Dyn)); // a payload that is not looked at
-    assert_eq!(decode_entry(0x2000000100000000), no(Kind::Payload, 0));
-    assert_eq!(decode_entry(0x9000000000000000), no(Kind::Tag, 0));
-    assert_eq!(encode_entry(Entry::Split { if_branch_id: 0, else_branch_id: 1 << 30 }), no(Kind::Payload, 0));
+    assert_eq!(decode_entry(0x2000000100000000), no(Kind::Payload, Number(0)));
+    assert_eq!(decode_entry(0x9000000000000000), no(Kind::Tag, Number(0)));
+    assert_eq!(encode_entry(Entry::Split { if_branch_id: id(0), else_branch_id: id(1 << 30) }), no(Kind::Payload, Number(0)));
 }
 
 #[test]
 fn the_flags_byte_of_a_file() {
     assert_eq!((flags(&sample("p10")), flags(&sample("p10-hashes"))), (Ok(2), Ok(0)));
-    assert_eq!((flags(&[7; 4]), flags(&[7; 5])), (no(Kind::Short, 4), Ok(7))); // nothing else is looked at
+    assert_eq!((flags(&[7; 4]), flags(&[7; 5])), (no(Kind::Short, byte(4)), Ok(7)));
+    // nothing else is looked at
 }
 
 #[test]

@@ -19,8 +19,8 @@ fn both_ways_to_a_digest_agree() {
     for index in 0..6 {
         assert_eq!(with_table(index), digest(&file, &layout, index), "node {index}");
     }
-    assert_eq!((with_table(2), with_table(3)), (Ok([21, 0, 0, 0]), Ok([11, 0, 0, 0])));
-    assert_eq!((with_table(4), with_table(5)), (no(Kind::Element, 4), no(Kind::Index, 5)));
+    assert_eq!((with_table(2), with_table(3)), (Ok(Word([21, 0, 0, 0])), Ok(Word([11, 0, 0, 0]))));
+    assert_eq!((with_table(4), with_table(5)), (no(Kind::Element, Node(4)), no(Kind::Index, Node(5))));
 }
 
 #[test]
@@ -28,14 +28,14 @@ fn a_table_is_taken_as_it_is() {
     let file = sample("p10-hashes");
     let layout = scanned(&file);
     let of = |layout: &Layout, index, table: &[u32]| digest_with_table(&file, layout, index, table);
-    assert_eq!(of(&layout, 0, &[0; 2]), no(Kind::Room, 0)); // shorter than the node count, though the row is there
-    assert_eq!(of(&layout, 3, &[]), no(Kind::Index, 3));
-    assert_eq!(of(&layout, 1, &[0, u32::MAX, 0]), no(Kind::Short, 1));
-    assert_eq!(of(&layout, 1, &[0, 1, 0]), Ok([0; 4]));
-    assert_eq!(of(&Layout { node_hashes: HashSection::ABSENT, ..layout }, 1, &[0; 3]), no(Kind::NoHash, 1));
-    let far = Layout { external_digest_offset: ByteOffset(usize::MAX - 31), ..layout };
-    assert_eq!(of(&far, 0, &[0; 3]), no(Kind::Overflow, 0));
-    assert_eq!(of(&FAR, 0, &[0; 3]), no(Kind::Room, 0));
+    assert_eq!(of(&layout, 0, &[0; 2]), no(Kind::Room, Node(0))); // shorter than the node count, though the row is there
+    assert_eq!(of(&layout, 3, &[]), no(Kind::Index, Node(3)));
+    assert_eq!(of(&layout, 1, &[0, u32::MAX, 0]), no(Kind::Short, Node(1)));
+    assert_eq!(of(&layout, 1, &[0, 1, 0]), Ok(Word([0; 4])));
+    assert_eq!(of(&with(layout, |l| l.node_hashes = HashSection::ABSENT), 1, &[0; 3]), no(Kind::NoHash, Node(1)));
+    let over = with(layout, |l| l.external_digest_offset = ByteOffset(usize::MAX - 31));
+    assert_eq!(of(&over, 0, &[0; 3]), no(Kind::Overflow, Node(0)));
+    assert_eq!(of(&far(), 0, &[0; 3]), no(Kind::Room, Node(0)));
 }
 
 #[test]
@@ -43,19 +43,17 @@ fn values_are_a_part_of_the_file() {
     let file = sample("advice");
     let mut keys = [0; 2];
     walk_map(&file, ByteOffset(137), &mut keys).unwrap();
-    let part = values(&file, &keys, 2, [1, 0, 0, 0]).unwrap().unwrap();
+    let of = |file, n, first| values(file, &keys, n, Word([first, 0, 0, 0]));
+    let part = of(&file, 2, 1).unwrap().unwrap();
     assert_eq!(part.as_ptr(), file[171..].as_ptr());
     assert_eq!(part, [7_u64, 8, 9].map(u64::to_le_bytes).concat());
-    assert_eq!(values(&file, &keys, 2, [0, 2, 0, 0]), Ok(Some(&[][..]))); // found, without values
-    assert_eq!(values(&file, &keys, 2, [3, 0, 0, 0]), Ok(None)); // absent
-    assert_eq!(values(&file, &keys, 3, [1, 0, 0, 0]), no(Kind::Room, 3));
-    assert_eq!(values(&file[..194], &keys, 2, [1, 0, 0, 0]), no(Kind::Short, 171));
+    assert_eq!(values(&file, &keys, 2, Word([0, 2, 0, 0])), Ok(Some(&[][..]))); // found, without values
+    assert_eq!(of(&file, 2, 3), Ok(None)); // absent
+    assert_eq!(of(&file, 3, 1), no(Kind::Room, Rows(3)));
+    assert_eq!(of(&file[..194], 2, 1), no(Kind::Short, byte(171)));
     let mut bad = file.clone();
     bad[171..179].copy_from_slice(&NOT_AN_ELEMENT.to_le_bytes());
-    assert_eq!(values(&bad, &keys, 2, [1, 0, 0, 0]), no(Kind::Element, 171));
-    let map = AdviceMap::walk(&file, ByteOffset(137), &mut keys).unwrap();
-    assert_eq!(map.values([1, 0, 0, 0]), Ok(Some(part)));
-    assert_eq!(map.values([3, 0, 0, 0]), Ok(None));
+    assert_eq!(of(&bad, 2, 1), no(Kind::Element, byte(171)));
 }
 
 #[test]
@@ -63,27 +61,28 @@ fn the_key_and_the_entry_at_a_place() {
     let file = sample("advice");
     let mut keys = [0; 3];
     walk_map(&file, ByteOffset(137), &mut keys).unwrap();
-    assert_eq!((key(&file, &keys, 0), key(&file, &keys, 1)), (Ok([0, 2, 0, 0]), Ok([1, 0, 0, 0])));
+    let (first, second) = (Word([0, 2, 0, 0]), Word([1, 0, 0, 0]));
+    assert_eq!((key(&file, &keys, 0), key(&file, &keys, 1)), (Ok(first), Ok(second)));
     let entry = |file: &[u8], index| map_entry(file, &keys, index);
-    assert_eq!(entry(&file, 0), Ok(MapEntry { key: [0, 2, 0, 0], len: 0, values: ByteOffset(228) }));
-    assert_eq!(entry(&file, 1), Ok(MapEntry { key: [1, 0, 0, 0], len: 3, values: ByteOffset(171) }));
+    assert_eq!(entry(&file, 0), Ok(MapEntry { key: first, len: 0, values: ByteOffset(228) }));
+    assert_eq!(entry(&file, 1), Ok(MapEntry { key: second, len: 3, values: ByteOffset(171) }));
     // no such place
-    assert_eq!((key(&file, &keys, 3), entry(&file, 3)), (no(Kind::Index, 3), no(Kind::Index, 3)));
-    assert_eq!(key(&file, &[], usize::MAX), no(Kind::Index, usize::MAX));
+    assert_eq!((key(&file, &keys, 3), entry(&file, 3)), (no(Kind::Index, Key(3)), no(Kind::Index, Key(3))));
+    assert_eq!(key(&file, &[], usize::MAX), no(Kind::Index, Key(usize::MAX)));
     // a place that leads out of the file, or to no word
     for at in [file.len() - 31, file.len(), usize::MAX] {
-        assert_eq!(key(&file, &[at as u64], 0), no(Kind::Short, at));
-        assert_eq!(map_entry(&file, &[at as u64], 0), no(Kind::Short, at));
+        assert_eq!(key(&file, &[at as u64], 0), no(Kind::Short, byte(at)));
+        assert_eq!(map_entry(&file, &[at as u64], 0), no(Kind::Short, byte(at)));
     }
     let mut bad = file.clone();
     bad[162..170].copy_from_slice(&NOT_AN_ELEMENT.to_le_bytes()); // the key's last element
-    assert_eq!((key(&bad, &keys, 1), entry(&bad, 1)), (no(Kind::Element, 138), no(Kind::Element, 138)));
+    assert_eq!((key(&bad, &keys, 1), entry(&bad, 1)), (no(Kind::Element, byte(138)), no(Kind::Element, byte(138))));
     // the key is there, and the length or the values are not
-    assert_eq!((key(&file[..170], &keys, 1), entry(&file[..170], 1)), (Ok([1, 0, 0, 0]), no(Kind::Short, 170)));
-    assert_eq!(entry(&file[..194], 1), no(Kind::Short, 171));
+    assert_eq!((key(&file[..170], &keys, 1), entry(&file[..170], 1)), (Ok(second), no(Kind::Short, byte(170))));
+    assert_eq!(entry(&file[..194], 1), no(Kind::Short, byte(171)));
     let mut wide = file.clone();
     wide[170..179].copy_from_slice(&[0, 0, 0, 0, 0, 0, 0, 0, 0x20]); // 2^61 values
-    assert_eq!(entry(&wide, 1), no(Kind::Overflow, 170));
+    assert_eq!(entry(&wide, 1), no(Kind::Overflow, byte(170)));
     // values are not judged
     let mut bad = file.clone();
     bad[171..179].copy_from_slice(&NOT_AN_ELEMENT.to_le_bytes());
@@ -112,8 +111,7 @@ fn what_follows_a_map_is_counted() {
     let mut file = sample("advice");
     let at = ByteOffset(137);
     for more in 0..3 {
-        let walked = walk_map(&file, at, &mut [0; 2]);
-        assert_eq!(walked, Ok(Walked { entries: 2, end: ByteOffset(228), trailing: more }));
+        assert_eq!(walked(walk_map(&file, at, &mut [0; 2])), Ok((2, 228, more)));
         assert_eq!(AdviceMap::walk(&file, at, &mut [0; 2]).unwrap().trailing(), more);
         file.push(0xEE);
     }

@@ -69,7 +69,7 @@ CALLS = ("veka_read_count veka_shortest_len veka_decode_entry veka_encode_entry 
 # how many places the answer of each call has; None: it returns a number and cannot refuse
 ANSWERS = dict(zip(CALLS, (3, None, 3, 1, 12, 1, 3, 0, 0, 0, 4, 4, 2, 1, 3, 4, 3, 1, 1, None, 4, 6, None)))
 PLACE = 900  # the place before a call
-LINKED = 200  # what veka_version says
+LINKED = 300  # what veka_version says
 rng = random.Random()
 
 # ---- document 01: bytes and numbers to an answer, which is 0 and values, or a refusal's number and its place

@@ -23,9 +23,9 @@ use Rattle.writer.specs.Writer.{writeOutcome, outputAfter}
 use Rattle.crossing.specs.Arrays.{factsOf, layoutOf, boundOf, layoutRow, boundRow, entryRow}
 use Rattle.vekalumist.specs.Answers.{laid, countRow, walkedRow, mapEntryRow, lookedRow, partRow}
 
--- 0.2.0: the major number times 10000, the minor one times 100, and the last
+-- 0.3.0: the major number times 10000, the minor one times 100, and the last
 abbrev pub version : ℕ
-version = 200
+version = 300
 
 -- ---- counts and entries
 

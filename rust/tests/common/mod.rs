@@ -1,9 +1,11 @@
 //! The facts that samples/ is written under, the samples, and files made of parts.
-#![allow(dead_code)] // each test file uses some of it
+#![allow(dead_code, unused_imports)] // each test file uses some of it
 
 use vekalumist::*;
 
-pub const FACTS: Facts = Facts { magic: *b"MAST", version: [0, 0, 2], hashless: 2, reserved: 0xFC, max_nodes: (1 << 30) - 1 };
+pub use vekalumist::Place::{Bytes, Key, Node, Number, Part, Root, Rows};
+
+pub const FACTS: Facts = Facts::STAND_IN;
 
 pub const JOIN_0_1: u64 = 1;
 pub const BLOCK_0: u64 = 0x3000000000000000;
@@ -22,16 +24,32 @@ pub fn scanned(file: &[u8]) -> Layout {
 }
 
 /// A refusal by kind and place, for short comparisons.
-pub fn no<T>(kind: Kind, place: usize) -> Result<T, Refusal> {
+pub fn no<T>(kind: Kind, place: Place) -> Result<T, Refusal> {
     Err(Refusal { kind, place })
+}
+
+/// The place that is a byte.
+pub fn byte(at: usize) -> Place {
+    Place::Byte(ByteOffset(at))
+}
+
+/// What a walk says: entries, end, and the bytes that follow.
+pub fn walked(walked: Result<Walked, Refusal>) -> Result<(usize, usize, usize), Refusal> {
+    walked.map(|map| (map.entries, map.end.0, map.trailing))
+}
+
+/// A layout like another, but for what is changed in it.
+pub fn with(mut layout: Layout, change: impl FnOnce(&mut Layout)) -> Layout {
+    change(&mut layout);
+    layout
 }
 
 /// The file of some parts, in just the room that it needs.
 pub fn made(parts: &Parts<'_>) -> Vec<u8> {
     let needed = write(&FACTS, parts, &mut []).unwrap_err();
-    assert_eq!(needed.kind, Kind::Room);
-    let mut out = vec![0; needed.place];
-    assert_eq!(write(&FACTS, parts, &mut out), Ok(needed.place));
+    let Refusal { kind: Kind::Room, place: Bytes(needed) } = needed else { panic!("{needed}") };
+    let mut out = vec![0; needed];
+    assert_eq!(write(&FACTS, parts, &mut out), Ok(needed));
     out
 }
 
@@ -47,16 +65,13 @@ pub fn of_words(words: &[u64]) -> Vec<u8> {
 }
 
 /// A layout whose every number is the largest.
-pub const FAR: Layout = Layout {
-    node_count: usize::MAX,
-    internal_node_count: Slot(usize::MAX),
-    external_node_count: Slot(usize::MAX),
-    roots_count: usize::MAX,
-    roots_offset: ByteOffset(usize::MAX),
-    basic_block_offset: ByteOffset(usize::MAX),
-    basic_block_len: usize::MAX,
-    node_entry_offset: ByteOffset(usize::MAX),
-    external_digest_offset: ByteOffset(usize::MAX),
-    node_hashes: HashSection::at(ByteOffset(usize::MAX)),
-    advice_map_offset: ByteOffset(usize::MAX),
-};
+pub fn far() -> Layout {
+    let (most, far) = (Slot(usize::MAX), ByteOffset(usize::MAX));
+    with(Layout::default(), |layout| {
+        (layout.node_count, layout.internal_node_count, layout.external_node_count) = (usize::MAX, most, most);
+        (layout.roots_count, layout.roots_offset) = (usize::MAX, far);
+        (layout.basic_block_offset, layout.basic_block_len) = (far, usize::MAX);
+        (layout.node_entry_offset, layout.external_digest_offset) = (far, far);
+        (layout.node_hashes, layout.advice_map_offset) = (HashSection::at(far), far);
+    })
+}

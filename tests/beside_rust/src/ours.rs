@@ -11,8 +11,12 @@ use crate::{
     },
 };
 
+/// A number that is none of document 01's is a breach too.
 fn told<T>(answer: Result<T, proved::Refusal>) -> Told<T> {
-    answer.map_err(|r| Refusal { number: r.kind.number(), place: r.place })
+    answer.map_err(|r| Refusal {
+        number: r.kind.number().try_into().unwrap_or(MEMORY),
+        place: r.place.number(),
+    })
 }
 
 /// The wrapper's answer, which is that of the function it calls.
@@ -31,22 +35,41 @@ fn facts_given(f: &Facts) -> proved::Facts {
 }
 
 fn layout_given(l: &Layout) -> proved::Layout {
-    proved::Layout {
-        node_count: l.node_count,
-        internal_node_count: proved::Slot(l.internal_node_count),
-        external_node_count: proved::Slot(l.external_node_count),
-        roots_count: l.roots_count,
-        roots_offset: proved::ByteOffset(l.roots_offset),
-        basic_block_offset: proved::ByteOffset(l.basic_block_offset),
-        basic_block_len: l.basic_block_len,
-        node_entry_offset: proved::ByteOffset(l.node_entry_offset),
-        external_digest_offset: proved::ByteOffset(l.external_digest_offset),
-        node_hashes: match l.node_hash_offset {
-            Some(at) => proved::HashSection::at(proved::ByteOffset(at)),
-            None => proved::HashSection::ABSENT,
-        },
-        advice_map_offset: proved::ByteOffset(l.advice_map_offset),
-    }
+    let mut given = proved::Layout::default();
+    given.node_count = l.node_count;
+    given.internal_node_count = proved::Slot(l.internal_node_count);
+    given.external_node_count = proved::Slot(l.external_node_count);
+    given.roots_count = l.roots_count;
+    given.roots_offset = proved::ByteOffset(l.roots_offset);
+    given.basic_block_offset = proved::ByteOffset(l.basic_block_offset);
+    given.basic_block_len = l.basic_block_len;
+    given.node_entry_offset = proved::ByteOffset(l.node_entry_offset);
+    given.external_digest_offset = proved::ByteOffset(l.external_digest_offset);
+    given.node_hashes = match l.node_hash_offset {
+        Some(at) => proved::HashSection::at(proved::ByteOffset(at)),
+        None => proved::HashSection::ABSENT,
+    };
+    given.advice_map_offset = proved::ByteOffset(l.advice_map_offset);
+    given
+}
+
+/// The wrapper's file with its layout, which is asked wherever it can be: it calls the wrapper's function over plain bytes.
+fn forest<'a>(bytes: &'a [u8], layout: &Layout) -> proved::Forest<'a> {
+    proved::Forest::with_layout(bytes, layout_given(layout))
+}
+
+/// A node by its id; an index that is none is asked for by the wrapper's function over plain bytes.
+fn by_id<T>(
+    bytes: &[u8],
+    layout: &Layout,
+    index: usize,
+    held: impl FnOnce(proved::Forest<'_>, proved::NodeId) -> Result<T, proved::Refusal>,
+    plain: fn(&[u8], &proved::Layout, usize) -> Result<T, proved::Refusal>,
+) -> Told<T> {
+    told(match u32::try_from(index) {
+        Ok(id) => held(forest(bytes, layout), proved::NodeId(id)),
+        Err(_) => plain(bytes, &layout_given(layout), index),
+    })
 }
 
 fn layout_shown(l: proved::Layout) -> Layout {
@@ -66,14 +89,18 @@ fn layout_shown(l: proved::Layout) -> Layout {
 }
 
 fn entry_shown(e: proved::Entry) -> Entry {
-    use proved::Entry as P;
+    use proved::{Entry as P, NodeId as Id};
     match e {
-        P::Join { left_child_id, right_child_id } => Entry::Join { left_child_id, right_child_id },
-        P::Split { if_branch_id, else_branch_id } => Entry::Split { if_branch_id, else_branch_id },
-        P::Loop { body_id } => Entry::Loop { body_id },
+        P::Join { left_child_id: Id(left_child_id), right_child_id: Id(right_child_id) } => {
+            Entry::Join { left_child_id, right_child_id }
+        }
+        P::Split { if_branch_id: Id(if_branch_id), else_branch_id: Id(else_branch_id) } => {
+            Entry::Split { if_branch_id, else_branch_id }
+        }
+        P::Loop { body_id: Id(body_id) } => Entry::Loop { body_id },
         P::Block { ops_offset } => Entry::Block { ops_offset },
-        P::Call { callee_id } => Entry::Call { callee_id },
-        P::SysCall { callee_id } => Entry::SysCall { callee_id },
+        P::Call { callee_id: Id(callee_id) } => Entry::Call { callee_id },
+        P::SysCall { callee_id: Id(callee_id) } => Entry::SysCall { callee_id },
         P::Dyn => Entry::Dyn,
         P::Dyncall => Entry::Dyncall,
         P::External => Entry::External,
@@ -81,14 +108,18 @@ fn entry_shown(e: proved::Entry) -> Entry {
 }
 
 fn entry_given(e: Entry) -> proved::Entry {
-    use proved::Entry as P;
+    use proved::{Entry as P, NodeId as Id};
     match e {
-        Entry::Join { left_child_id, right_child_id } => P::Join { left_child_id, right_child_id },
-        Entry::Split { if_branch_id, else_branch_id } => P::Split { if_branch_id, else_branch_id },
-        Entry::Loop { body_id } => P::Loop { body_id },
+        Entry::Join { left_child_id, right_child_id } => {
+            P::Join { left_child_id: Id(left_child_id), right_child_id: Id(right_child_id) }
+        }
+        Entry::Split { if_branch_id, else_branch_id } => {
+            P::Split { if_branch_id: Id(if_branch_id), else_branch_id: Id(else_branch_id) }
+        }
+        Entry::Loop { body_id } => P::Loop { body_id: Id(body_id) },
         Entry::Block { ops_offset } => P::Block { ops_offset },
-        Entry::Call { callee_id } => P::Call { callee_id },
-        Entry::SysCall { callee_id } => P::SysCall { callee_id },
+        Entry::Call { callee_id } => P::Call { callee_id: Id(callee_id) },
+        Entry::SysCall { callee_id } => P::SysCall { callee_id: Id(callee_id) },
         Entry::Dyn => P::Dyn,
         Entry::Dyncall => P::Dyncall,
         Entry::External => P::External,
@@ -141,35 +172,37 @@ pub fn flags(bytes: &[u8]) -> Told<u8> {
 }
 
 pub fn scan(bytes: &[u8], facts: &Facts, allow: bool, bound: Option<usize>) -> Told<Layout> {
-    let layout = told(proved::scan(bytes, &facts_given(facts), allow, bound));
-    both(layout.map(layout_shown), raw::scan(bytes, facts, allow, bound))
+    let mut options = proved::ScanOptions::new();
+    (options.allow_hashless, options.bound) = (allow, bound);
+    let forest = told(proved::Forest::scan(bytes, &facts_given(facts), options));
+    both(forest.map(|f| layout_shown(*f.layout())), raw::scan(bytes, facts, allow, bound))
 }
 
 pub fn root(bytes: &[u8], layout: &Layout, index: usize) -> Told<u32> {
-    let root = told(proved::root(bytes, &layout_given(layout), index));
-    both(root, raw::root(bytes, layout, index))
+    let root = told(forest(bytes, layout).root(index));
+    both(root.map(|id| id.0), raw::root(bytes, layout, index))
 }
 
 pub fn entry(bytes: &[u8], layout: &Layout, index: usize) -> Told<Entry> {
-    let entry = told(proved::entry(bytes, &layout_given(layout), index));
+    let entry = by_id(bytes, layout, index, |forest, id| forest.entry(id), proved::entry);
     both(entry.map(entry_shown), raw::entry(bytes, layout, index))
 }
 
 pub fn children(bytes: &[u8], layout: &Layout) -> Told<()> {
-    both(told(proved::children(bytes, &layout_given(layout))), raw::children(bytes, layout))
+    both(told(forest(bytes, layout).check_children()), raw::children(bytes, layout))
 }
 
 pub fn order(bytes: &[u8], layout: &Layout) -> Told<()> {
-    both(told(proved::order(bytes, &layout_given(layout))), raw::order(bytes, layout))
+    both(told(forest(bytes, layout).check_order()), raw::order(bytes, layout))
 }
 
 pub fn strict(bytes: &[u8], layout: &Layout) -> Told<()> {
-    both(told(proved::strict(bytes, &layout_given(layout))), raw::strict(bytes, layout))
+    both(told(forest(bytes, layout).check_strict()), raw::strict(bytes, layout))
 }
 
 pub fn digest(bytes: &[u8], layout: &Layout, index: usize) -> Told<[u64; 4]> {
-    let digest = told(proved::digest(bytes, &layout_given(layout), index));
-    both(digest, raw::digest(bytes, layout, index))
+    let digest = by_id(bytes, layout, index, |forest, id| forest.digest(id), proved::digest);
+    both(digest.map(|word| word.0), raw::digest(bytes, layout, index))
 }
 
 pub fn digest_with_table(
@@ -179,7 +212,7 @@ pub fn digest_with_table(
     table: &[u32],
 ) -> Told<[u64; 4]> {
     let digest = told(proved::digest_with_table(bytes, &layout_given(layout), index, table));
-    both(digest, raw::digest_with_table(bytes, layout, index, table))
+    both(digest.map(|word| word.0), raw::digest_with_table(bytes, layout, index, table))
 }
 
 pub fn slots(bytes: &[u8], layout: &Layout, bound: Option<usize>, places: usize) -> Told<Slots> {
@@ -225,11 +258,11 @@ pub fn walk_map(bytes: &[u8], at: usize, places: usize) -> Told<Walked> {
 }
 
 pub fn key(bytes: &[u8], keys: &[u64], index: usize) -> Told<[u64; 4]> {
-    both(told(proved::key(bytes, keys, index)), raw::key(bytes, keys, index))
+    both(told(proved::key(bytes, keys, index)).map(|word| word.0), raw::key(bytes, keys, index))
 }
 
 fn map_entry_shown(e: proved::MapEntry) -> MapEntry {
-    MapEntry { key: e.key, len: e.len, values: e.values.0 }
+    MapEntry { key: e.key.0, len: e.len, values: e.values.0 }
 }
 
 pub fn map_entry(bytes: &[u8], keys: &[u64], index: usize) -> Told<MapEntry> {
@@ -239,7 +272,7 @@ pub fn map_entry(bytes: &[u8], keys: &[u64], index: usize) -> Told<MapEntry> {
 
 pub fn lookup(bytes: &[u8], keys: &[u64], n: usize, key: [u64; 4]) -> Told<Looked> {
     both(
-        looked(bytes, looked_shown(proved::lookup(bytes, keys, n, key))),
+        looked(bytes, looked_shown(proved::lookup(bytes, keys, n, proved::Word(key)))),
         looked(bytes, raw::lookup(bytes, keys, n, key)),
     )
 }
@@ -268,7 +301,7 @@ fn looked(bytes: &[u8], answer: Told<(Option<(usize, usize)>, usize)>) -> Told<L
 /// The wrapper's map over a file.
 pub struct HeldMap<'a> {
     bytes: &'a [u8],
-    map: proved::AdviceMap<'a>,
+    map: proved::AdviceMap<'a, 'a>,
 }
 
 impl<'a> HeldMap<'a> {
@@ -282,15 +315,29 @@ impl<'a> HeldMap<'a> {
     }
 
     pub fn values(&self, key: [u64; 4]) -> Told<Part> {
-        told(self.map.values(key)).map(|part| placed(self.bytes, part))
+        let values = told(self.map.get(key))?;
+        let part = placed(self.bytes, values.map(|v| v.as_bytes()));
+        match (&part, values) {
+            (Some((at, _)), Some(v)) if *at != v.offset().0 => refuse(MEMORY, *at),
+            _ => Ok(part),
+        }
     }
 
-    /// The entry at a place, whose key is the key there.
+    /// The entry at a place: its key is the key there and stands where it says, its values are a part of the file, and the entries in turn
+    /// have it at this place.
     pub fn entry(&self, index: usize) -> Told<MapEntry> {
-        let entry = told(self.map.entry(index)).map(map_entry_shown);
-        match (entry, told(self.map.key(index))) {
-            (Ok(entry), Ok(key)) if entry.key == key => Ok(entry),
-            (Err(entry), Err(key)) if entry == key => Err(entry),
+        let entry = told(self.map.entry(index));
+        match (entry, told(self.map.key(index)), self.map.iter().nth(index)) {
+            (Ok(e), Ok(key), Some(Ok(in_turn)))
+                if e.key == key
+                    && in_turn == e
+                    && self.bytes[e.key_offset.0..].starts_with(&key.to_bytes())
+                    && placed(self.bytes, Some(e.values.as_bytes())).map(|(at, _)| at)
+                        == Some(e.values.offset().0) =>
+            {
+                Ok(MapEntry { key: key.0, len: e.values.len(), values: e.values.offset().0 })
+            }
+            (Err(entry), Err(key), None) if entry == key => Err(entry),
             _ => refuse(MEMORY, index),
         }
     }
@@ -302,7 +349,8 @@ impl<'a> HeldMap<'a> {
 }
 
 pub fn values(bytes: &[u8], keys: &[u64], n: usize, key: [u64; 4]) -> Told<Part> {
-    let wrapper = told(proved::values(bytes, keys, n, key)).map(|part| placed(bytes, part));
+    let wrapper = told(proved::values(bytes, keys, n, proved::Word(key)));
+    let wrapper = wrapper.map(|part| placed(bytes, part));
     let raw = match raw::values(bytes, keys, n, key) {
         Ok(Some((at, len))) => match bytes.get(at..).and_then(|from| from.get(..len)) {
             Some(part) => Ok(Some((at, part.to_vec()))),
@@ -333,9 +381,10 @@ pub fn write(facts: &Facts, parts: &Parts, claims: &[Vec<u64>], places: usize) -
             _ => refuse(MEMORY, 0),
         }
     };
+    let roots: Vec<_> = parts.roots.iter().copied().map(proved::NodeId).collect();
     let lent = proved::Parts {
         flags: parts.flags,
-        roots: &parts.roots,
+        roots: &roots,
         blocks: &parts.blocks,
         words: &parts.words,
         external: &parts.external,
