@@ -32,10 +32,12 @@ def block(offset):
 DYN, EXTERNAL = 6 << 60, 8 << 60
 
 
-def forest(flags, entries, roots, blocks, advice=()):
-    """A file of entry words, zero digests, and advice entries (key of four numbers, values); and its page."""
+def forest(flags, entries, roots, blocks, advice=(), digests=None):
+    """A file of entry words, digests (of the external nodes and then of the others; zero if not given), and advice entries (key of four numbers,
+    values); and its page."""
     external = sum(w == EXTERNAL for w in entries)
     internal = len(entries) - external
+    digests = digests or bytes(32 * len(entries))
     out = MAGIC + bytes([flags]) + VERSION + count(internal) + count(external) + count(len(roots))
     page = f"nodes {len(entries)} internal {internal} external {external}\nroots {len(roots)} at {len(out)}\n"
     out += b"".join(struct.pack("<I", r) for r in roots) + count(len(blocks))
@@ -44,9 +46,9 @@ def forest(flags, entries, roots, blocks, advice=()):
     page += f"entries at {len(out)}\n"
     out += b"".join(struct.pack("<Q", w) for w in entries)
     page += f"external digests at {len(out)}\n"
-    out += bytes(32 * external)
+    out += digests[: 32 * external]
     page += "node hashes none\n" if flags & HASHLESS else f"node hashes at {len(out)}\n"
-    out += b"" if flags & HASHLESS else bytes(32 * internal)
+    out += b"" if flags & HASHLESS else digests[32 * external :]
     page += f"advice at {len(out)} "
     out += count(len(advice))
     for key, values in advice:
@@ -59,6 +61,7 @@ def refused(number, place):
 
 
 P10 = [EXTERNAL, block(0), join(0, 1)]
+LINKED, RISING = [EXTERNAL, EXTERNAL, block(0), join(0, 2)], bytes(range(128))
 hashless, hashless_page = forest(HASHLESS, P10, [2], b"\xab")
 hashes, hashes_page = forest(0, P10, [2], b"\xab")
 twice, _ = forest(HASHLESS, P10, [2], b"\xab", [((1, 0, 0, 0), []), ((1, 0, 0, 0), [])])
@@ -69,7 +72,9 @@ FILES = {
     "p10-hashes.mast": ("P10 with hashes", hashes, hashes_page),
     "advice.mast": ("with hashes, and a map of two entries", *forest(0, P10, [2], b"\xab", [((1, 0, 0, 0), [7, 8, 9]), ((0, 2, 0, 0), [])])),
     "empty.mast": ("no node, no root, an empty map", *forest(0, [], [], b"")),
-    "bad-magic.mast": ("three bytes of wrong magic", b"XXX", refused(1, 0)),
+    "digests.mast": ("two external nodes and two others, with digests of rising bytes", *forest(0, LINKED, [3], b"\xab", digests=RISING)),
+    "short.mast": ("three bytes of wrong magic", b"XXX", refused(1, 0)),
+    "bad-magic.mast": ("P10 with another first byte", b"X" + hashless[1:], refused(2, 0)),
     "bad-tag.mast": ("P10 with tag 9 in its first entry", hashless[:24] + b"\x90" + hashless[25:], refused(9, 17)),
     "twice.mast": ("P10 with one key twice in its map", twice, refused(19, 107)),
     "trailing.mast": ("with hashes; a line of a log follows the map", hashes + b"log: stored\n", hashes_page),

@@ -71,12 +71,17 @@ step layout cargo run --offline --manifest-path rust/Cargo.toml --example layout
 cat >"$work/want" <<'WANT'
 3 nodes, entries at byte 17
 root: node 2, Join 0 1
+  child: node 0, External
+  child: node 1, Block 0
 0x0000000000000000020000000000000000000000000000000000000000000000: 0 values at byte 228
 0x0100000000000000000000000000000000000000000000000000000000000000: 3 values at byte 171
+key 1,0,0,0: [7, 8, 9]
 the map ends at byte 228, and 0 bytes follow
 WANT
-tail -n 5 "$work/layout.log" | cmp -s - "$work/want" || { echo "rust example: differs"; exit 1; }
-sed -n '/^```rust$/,/^```$/p' README.md | sed '/^```/d' >"$work/readme.rs"
+tail -n 8 "$work/layout.log" | cmp -s - "$work/want" || { echo "rust example: differs"; exit 1; }
+# readme LANGUAGE: the code of that language in README
+readme() { sed -n "/^\`\`\`$1\$/,/^\`\`\`\$/p" README.md | sed '/^```/d'; }
+readme rust >"$work/readme.rs"
 tail -n +2 rust/examples/layout.rs | cmp -s - "$work/readme.rs" || { echo "rust example: README has another"; exit 1; }
 echo "rust example: agrees, and is README's"
 
@@ -94,6 +99,13 @@ done
 step swapped sh tests/header/swapped.sh
 echo "swapped arguments: $(tail -n 1 "$work/swapped.log")"
 compiled layout examples/layout.c
+{ readme c; echo 'int main(void) { return show(NULL, 0) == 1 ? 0 : 1; }'; } >"$work/readme.c"
+compiled readme "$work/readme.c"
+for as in c cpp; do
+    "$work/readme_$as" >"$work/got" || { echo "c of README: status $?"; exit 1; }
+    [ "$(cat "$work/got")" = 'refused 1 (SHORT) at 0' ] || { echo "c of README: differs"; exit 1; }
+done
+echo "c of README: compiles and runs, as C11 and as C++17"
 
 # example FILE TEXT: on FILE the example prints TEXT, and on standard error how many bytes follow the map, where some do
 example() {
@@ -120,6 +132,41 @@ done <"$work/list"
 example "$work/long.mast" "$(sed -n 's/^advice.mast 0 //p' "$work/list")"
 echo "c example: $tried samples and a long file agree, as C11 and as C++17"
 
+# two programs written from README alone, on every sample: the status is that of the sample, and what they say of some is known
+compiled roots examples/roots.c
+step find cargo build --offline --manifest-path examples/rust/Cargo.toml
+step find_clippy cargo clippy --offline --manifest-path examples/rust/Cargo.toml -- -D warnings
+step find_format cargo fmt --check --manifest-path examples/rust/Cargo.toml
+# ends LABEL STATUS COMMAND..: the command ends so; what it says, on both streams, goes to a file
+ends() {
+    label=$1 expected=$2 ended=0
+    shift 2
+    "$@" >"$work/got" 2>&1 || ended=$?
+    [ "$ended" = "$expected" ] || { echo "$label: status $ended"; cat "$work/got"; exit 1; }
+}
+# tells LABEL TEXT: the last line of it is TEXT
+tells() {
+    [ "$(tail -n 1 "$work/got")" = "$2" ] || { echo "$1: differs"; cat "$work/got"; exit 1; }
+}
+while read -r name wanted _; do
+    [ "$name" != root-beyond.mast ] || wanted=1 # both ask for every root
+    for as in c cpp; do
+        ends "roots of $name" "$wanted" "$work/roots_$as" "samples/$name"
+    done
+    ends "find in $name" "$wanted" "$CARGO_TARGET_DIR/debug/find" "samples/$name" 1,0,0,0
+done <"$work/list"
+ends 'roots of digests.mast' 0 "$work/roots_c" samples/digests.mast
+grep -qx 'root: node 3, 6766656463626160 6f6e6d6c6b6a6968 7776757473727170 7f7e7d7c7b7a7978' "$work/got" || { echo "roots of digests.mast: differs"; exit 1; }
+tells 'roots of digests.mast' 'map: 0 entries, ends at byte 178, 0 bytes follow'
+ends 'roots of bad-tag.mast' 1 "$work/roots_c" samples/bad-tag.mast
+tells 'roots of bad-tag.mast' 'refused: TAG at 17'
+ends 'find in advice.mast' 0 "$CARGO_TARGET_DIR/debug/find" samples/advice.mast 0x0100000000000000000000000000000000000000000000000000000000000000
+tells 'find in advice.mast' 9
+ends 'find in twice.mast' 1 "$CARGO_TARGET_DIR/debug/find" samples/twice.mast 1,0,0,0
+tells 'find in twice.mast' 'find: refused 19 (DUPLICATE) at byte 107: the key was there before'
+ends 'find, wrong use' 1 "$CARGO_TARGET_DIR/debug/find" samples/advice.mast
+echo "the two programs written from README alone: $tried samples agree"
+
 rust_crate mast build --release --bin mast
 mast=$CARGO_TARGET_DIR/release/mast
 step man python3 tools/man.py --check "$mast"
@@ -127,6 +174,8 @@ echo "man page: made from the help, $(tail -n 1 "$work/man.log")"
 
 step program sh tests/mast_layout/run.sh
 echo "small program: $(tail -n 1 "$work/program.log")"
+step script sh tests/mast_layout/script.sh
+echo "its script: $(tail -n 1 "$work/script.log")"
 
 step beside_rust cargo run --release --offline --manifest-path tests/beside_rust/Cargo.toml
 echo "beside the published Rust: $(tail -n 1 "$work/beside_rust.log")"

@@ -210,10 +210,12 @@ said = re.findall(r'"([A-Z-]+)"', inline.get("veka_refusal_name", ("", ""))[1])
 same("veka_refusal_name", said, [named[n] for n in sorted(named)] + ["UNKNOWN"])
 table = {int(number): name for number, name in re.findall(r"\| (\d+) \| ([A-Z-]+) (?=\|)", text("README.md"))}
 same("README's table", {0: "OK", **table}, named)
-of_kinds = re.findall(r'^    (\w+) (\d+) "([A-Z-]+)" "', text("rust/src/refusal.rs"), re.M)
+of_kinds = re.findall(r'^    (\w+) (\d+) "([A-Z-]+)" "([^"]+)",$', text("rust/src/refusal.rs"), re.M)
+told = re.findall(r"^\| (\d+) \| [A-Z-]+ \| (.*) \|$", text("README.md"), re.M)
+same("README's table, what is said", told, [(number, says) for _, number, _, says in of_kinds])
 wanted = [(number, name) for name, number in refusals.items()]
-same("rust/src/refusal.rs: variants", [(int(number), shouted(variant)) for variant, number, _ in of_kinds], sorted(wanted))
-same("rust/src/refusal.rs: names", [(int(number), name) for _, number, name in of_kinds], [(n, named[n]) for n, _ in sorted(wanted)])
+same("rust/src/refusal.rs: variants", [(int(number), shouted(variant)) for variant, number, _, _ in of_kinds], sorted(wanted))
+same("rust/src/refusal.rs: names", [(int(number), name) for _, number, name, _ in of_kinds], [(n, named[n]) for n, _ in sorted(wanted)])
 
 kinds = re.search(r"\npub enum MastNodeEntry \{(.*?)\n\}", text("crates/info/src/lib.rt"), re.S)[1]
 kinds = re.findall(r"^    (\w+)", kinds, re.M)

@@ -1,6 +1,8 @@
 //! The advice map of a file, held with the table of its keys.
 
 use core::fmt;
+use core::iter::{Copied, Map};
+use core::slice::Iter;
 
 use crate::in_turn::in_turn;
 use crate::{key, lookup, map_entry, rows, sys, walk_map, ByteOffset, Lookup, Refusal, Walked, Word};
@@ -193,7 +195,16 @@ impl<'a> Values<'a> {
     }
 
     /// All of them in turn.
-    pub fn iter(&self) -> impl DoubleEndedIterator<Item = u64> + ExactSizeIterator + Clone + use<'a> {
+    pub fn iter(&self) -> <Values<'a> as IntoIterator>::IntoIter {
+        self.into_iter()
+    }
+}
+
+impl<'a> IntoIterator for Values<'a> {
+    type Item = u64;
+    type IntoIter = Map<Copied<Iter<'a, [u8; 8]>>, fn([u8; 8]) -> u64>;
+
+    fn into_iter(self) -> Self::IntoIter {
         self.numbers.iter().copied().map(u64::from_le_bytes)
     }
 }

@@ -118,7 +118,7 @@ fn a_map_is_held_with_its_table() {
         map.get(second).unwrap().unwrap()
     }; // the values outlive the table
     assert_eq!((values.offset(), values.len(), values.is_empty()), (ByteOffset(171), 3, false));
-    assert!(values.iter().eq([7, 8, 9]) && values.iter().rev().eq([9, 8, 7]));
+    assert!(values.iter().eq([7, 8, 9]) && values.iter().rev().eq([9, 8, 7]) && values.into_iter().eq([7, 8, 9]));
     assert_eq!((values.get(2), values.get(3)), (Some(9), None));
     assert_eq!(values.as_bytes(), &file[171..195]);
     assert_eq!(format!("{values:?}"), "ByteOffset(171) [7, 8, 9]");
