@@ -76,5 +76,5 @@ int main(int argc, char **argv) {
         printf("refused %" PRIu64 " at %" PRIu64 "\n", number, place);
     free(keys);
     free(file);
-    return 0;
+    return number == VEKA_OK ? 0 : 1;
 }

@@ -12,17 +12,8 @@ fn main() {
         Some(folder) => named(Path::new(&folder)),
         None => made(),
     };
-    let archive = folder.join("libvekalumist.a");
-    let bytes = fs::read(&archive).unwrap_or_else(|error| fail(&format!("{}: {error}", archive.display())));
-    let (wanted, found) = (cargo_says("CARGO_CFG_TARGET_ARCH"), machine(&bytes));
-    if found.as_deref() != Some(wanted.as_str()) {
-        let found = found.unwrap_or_else(|| "no machine that is known here".into());
-        fail(&format!(
-            "{} is for {found}, and this build for {wanted}. tools/archive.sh REPO OUT makes one for the machine that it runs on, x86_64 or \
-             aarch64; name its folder OUT in VEKALUMIST_ARCHIVE.",
-            archive.display()
-        ));
-    }
+    hold_to_machine(&folder.join("libvekalumist.a"));
+    hold_to_version(&folder.join("libvekalumist.version"));
     println!("cargo::rustc-link-search=native={}", folder.display());
     println!("cargo::rustc-link-lib=static=vekalumist");
 }
@@ -37,11 +28,39 @@ fn cargo_says(name: &str) -> String {
     env::var(name).unwrap_or_else(|_| fail(&format!("cargo has not set {name}")))
 }
 
+const ONE_FOR_EACH: &str =
+    "tools/archive.sh REPO OUT makes one for the machine that it runs on, x86_64 or aarch64; name its folder OUT in \
+                            VEKALUMIST_ARCHIVE.";
+
+/// The archive is linked only if it is for the machine that is built for.
+fn hold_to_machine(archive: &Path) {
+    let bytes = fs::read(archive).unwrap_or_else(|error| fail(&format!("{}: {error}", archive.display())));
+    let (wanted, found) = (cargo_says("CARGO_CFG_TARGET_ARCH"), machine(&bytes));
+    if found.as_deref() != Some(wanted.as_str()) {
+        let found = found.unwrap_or_else(|| "no machine that is known here".into());
+        fail(&format!("{} is for {found}, and this build for {wanted}. {ONE_FOR_EACH}", archive.display()));
+    }
+}
+
+/// And only if it is of this crate's version: another may store more than the memory that is lent here.
+fn hold_to_version(file: &Path) {
+    let part = |name: &str| cargo_says(name).parse::<u64>().unwrap_or_else(|_| fail(&format!("{name} is no number")));
+    let wanted = 10000 * part("CARGO_PKG_VERSION_MAJOR") + 100 * part("CARGO_PKG_VERSION_MINOR") + part("CARGO_PKG_VERSION_PATCH");
+    let found = fs::read_to_string(file).unwrap_or_default();
+    if found.trim() != wanted.to_string() {
+        let found = if found.is_empty() { "is not there".into() } else { format!("says {}", found.trim()) };
+        fail(&format!(
+            "{} {found}, and this crate is {wanted}: tools/archive.sh leaves it beside the archive of its version.",
+            file.display()
+        ));
+    }
+}
+
 fn named(folder: &Path) -> PathBuf {
     let archive = folder.join("libvekalumist.a");
     match fs::canonicalize(folder) {
         Ok(folder) if archive.is_file() => {
-            println!("cargo::rerun-if-changed={}", folder.join("libvekalumist.a").display());
+            println!("cargo::rerun-if-changed={}", folder.display());
             folder
         }
         _ => fail(&format!("VEKALUMIST_ARCHIVE: there is no {}", archive.display())),
@@ -55,6 +74,11 @@ fn made() -> PathBuf {
     // the archive itself is not named here: it is newer than the start of the run that makes it
     for input in ["crates", "crates.txt", "tools/archive.sh"] {
         println!("cargo::rerun-if-changed={}", repository.join(input).display());
+    }
+    // rt builds for the machine that it runs on: nothing is proved for another
+    let (target, host) = (cargo_says("TARGET"), cargo_says("HOST"));
+    if target.split('-').next() != host.split('-').next() || cargo_says("CARGO_CFG_TARGET_OS") != "linux" {
+        fail(&format!("no archive for {target} can be made on {host}. {ONE_FOR_EACH}"));
     }
     if Command::new("rt").arg("version").output().is_err() {
         fail(

@@ -53,7 +53,10 @@ rust_crate() {
 step format cargo fmt --check --manifest-path rust/Cargo.toml
 rust_crate clippy clippy --all-targets -- -D warnings
 rust_crate clippy_no_std clippy --no-default-features -- -D warnings
-step doc env RUSTDOCFLAGS="-D warnings" cargo doc --offline --no-deps --manifest-path rust/Cargo.toml
+for features in --no-default-features --all-features; do
+    step doc env RUSTDOCFLAGS="-D warnings" cargo doc --offline --no-deps --manifest-path rust/Cargo.toml "$features"
+done
+rust_crate test_no_std test --no-default-features
 rust_crate rust test
 passed() { awk "/Doc-tests/ { doc = 1 } /^test result: ok/ && doc == $1 { n += \$4 } END { print n + 0 }" "$work/rust.log"; }
 [ "$(passed 0)" -gt 0 ] && [ "$(passed 1)" -gt 0 ] || { echo "rust: no tests"; exit 1; }
@@ -107,14 +110,16 @@ for as in c cpp; do
 done
 echo "c of README: compiles and runs, as C11 and as C++17"
 
-# example FILE TEXT: on FILE the example prints TEXT, and on standard error how many bytes follow the map, where some do
+# example FILE STATUS TEXT: on FILE the example prints TEXT and ends so, and says on standard error how many bytes follow the map, where some do
 example() {
-    printf '%b\n' "$2" >"$work/want"
+    printf '%b\n' "$3" >"$work/want"
     after=0
-    case $2 in *' end '*) after=$(($(wc -c <"$1") - ${2##* end })) ;; esac
+    case $3 in *' end '*) after=$(($(wc -c <"$1") - ${3##* end })) ;; esac
     if [ "$after" -gt 0 ]; then echo "$after bytes follow the map"; fi >"$work/follows"
     for as in c cpp; do
-        "$work/layout_$as" "$1" >"$work/got" 2>"$work/complaint" || { echo "c example: $1: status $?"; exit 1; }
+        ended=0
+        "$work/layout_$as" "$1" >"$work/got" 2>"$work/complaint" || ended=$?
+        [ "$ended" = "$2" ] || { echo "c example: $1: status $ended"; exit 1; }
         cmp -s "$work/want" "$work/got" || { echo "c example: $1: differs"; diff "$work/want" "$work/got" || true; exit 1; }
         cmp -s "$work/follows" "$work/complaint" || { echo "c example: $1: differs on what follows the map"; exit 1; }
     done
@@ -122,14 +127,14 @@ example() {
 step samples samples/make.py --check
 samples/make.py --list >"$work/list"
 tried=0
-while read -r name _ text; do
-    example "samples/$name" "$text"
+while read -r name wanted text; do
+    example "samples/$name" "$wanted" "$text"
     tried=$((tried + 1))
 done <"$work/list"
 [ "$tried" -gt 0 ] || { echo "c example: no samples"; exit 1; }
 # a file above the small program's 65,536 bytes, with bytes after its map
 { cat samples/advice.mast; head -c 100000 /dev/zero; } >"$work/long.mast"
-example "$work/long.mast" "$(sed -n 's/^advice.mast 0 //p' "$work/list")"
+example "$work/long.mast" 0 "$(sed -n 's/^advice.mast 0 //p' "$work/list")"
 echo "c example: $tried samples and a long file agree, as C11 and as C++17"
 
 # two programs written from README alone, on every sample: the status is that of the sample, and what they say of some is known

@@ -1,5 +1,6 @@
 #!/bin/sh
-# archive.sh REPO OUT: proves the crate vekalumist of REPO, builds its archive as rt does, and leaves OUT/libvekalumist.a for this machine.
+# archive.sh REPO OUT: proves the crate vekalumist of REPO, builds its archive as rt does, and leaves OUT/libvekalumist.a for this machine, with
+# its version, as veka_version gives it, in OUT/libvekalumist.version.
 # rt builds for x86-64. On aarch64 the very same bitcode is compiled once more, with only the target changed: its x86-64 object must first
 # come out as rt's, byte for byte. rt's own archive stays there as OUT/libvekalumist_x86.a.
 set -eu
@@ -22,6 +23,7 @@ build() {
     ended=$({ { cd "$repo" && { rt check $below && rt staticlib vekalumist; } 2>&1; echo $? >&3; } | tee "$out/build.log" |
         grep --line-buffered '^rt: .* proved ([0-9]* s)' >&2; } 3>&1) || true
     [ "$ended" = 0 ] || { tail "$out/build.log" >&2; exit 1; }
+    sed -n 's/^const VERSION: u64 = \([0-9]*\);$/\1/p' "$repo/crates/vekalumist/src/lib.rt" >"$out/libvekalumist.version"
 }
 
 if [ "$machine" = x86_64 ]; then

@@ -1,8 +1,8 @@
 //! The advice map of a file, held with the table of its keys.
 
 use core::fmt;
-use core::iter::{Copied, Map};
-use core::slice::Iter;
+use core::iter::FusedIterator;
+use core::slice;
 
 use crate::in_turn::in_turn;
 use crate::{key, lookup, map_entry, rows, sys, walk_map, ByteOffset, Lookup, Refusal, Walked, Word};
@@ -34,7 +34,7 @@ use crate::{key, lookup, map_entry, rows, sys, walk_map, ByteOffset, Lookup, Ref
 /// }
 /// # Ok::<(), vekalumist::Refusal>(())
 /// ```
-#[derive(Clone, Copy, Debug)]
+#[derive(Clone, Copy)]
 #[must_use]
 pub struct AdviceMap<'a, 'k> {
     file: &'a [u8],
@@ -127,6 +127,13 @@ impl<'a, 'k> AdviceMap<'a, 'k> {
     }
 }
 
+/// What the walk said; neither the file nor the table, which may be large.
+impl fmt::Debug for AdviceMap<'_, '_> {
+    fn fmt(&self, f: &mut fmt::Formatter<'_>) -> fmt::Result {
+        f.debug_tuple("AdviceMap").field(&self.walked).finish()
+    }
+}
+
 impl<'a, 'k> IntoIterator for &AdviceMap<'a, 'k> {
     type Item = Result<AdviceEntry<'a>, Refusal>;
     type IntoIter = AdviceIter<'a, 'k>;
@@ -137,7 +144,7 @@ impl<'a, 'k> IntoIterator for &AdviceMap<'a, 'k> {
 }
 
 /// An entry of the map.
-#[derive(Clone, Copy, Debug, PartialEq, Eq)]
+#[derive(Clone, Copy, Debug, PartialEq, Eq, Hash)]
 #[non_exhaustive]
 pub struct AdviceEntry<'a> {
     /// Its key.
@@ -149,7 +156,7 @@ pub struct AdviceEntry<'a> {
 }
 
 /// The values of a key, as a part of the file.
-#[derive(Clone, Copy, PartialEq, Eq)]
+#[derive(Clone, Copy, PartialEq, Eq, Hash)]
 #[must_use]
 pub struct Values<'a> {
     offset: ByteOffset,
@@ -195,19 +202,59 @@ impl<'a> Values<'a> {
     }
 
     /// All of them in turn.
-    pub fn iter(&self) -> <Values<'a> as IntoIterator>::IntoIter {
-        self.into_iter()
+    pub fn iter(&self) -> ValuesIter<'a> {
+        ValuesIter(self.numbers.iter())
     }
 }
 
 impl<'a> IntoIterator for Values<'a> {
     type Item = u64;
-    type IntoIter = Map<Copied<Iter<'a, [u8; 8]>>, fn([u8; 8]) -> u64>;
+    type IntoIter = ValuesIter<'a>;
 
-    fn into_iter(self) -> Self::IntoIter {
-        self.numbers.iter().copied().map(u64::from_le_bytes)
+    fn into_iter(self) -> ValuesIter<'a> {
+        self.iter()
     }
 }
+
+impl<'a> IntoIterator for &Values<'a> {
+    type Item = u64;
+    type IntoIter = ValuesIter<'a>;
+
+    fn into_iter(self) -> ValuesIter<'a> {
+        self.iter()
+    }
+}
+
+/// The values of a key in turn, as numbers.
+#[derive(Clone, Debug)]
+#[must_use]
+pub struct ValuesIter<'a>(slice::Iter<'a, [u8; 8]>);
+
+impl Iterator for ValuesIter<'_> {
+    type Item = u64;
+
+    fn next(&mut self) -> Option<u64> {
+        self.0.next().copied().map(u64::from_le_bytes)
+    }
+
+    fn nth(&mut self, n: usize) -> Option<u64> {
+        self.0.nth(n).copied().map(u64::from_le_bytes)
+    }
+
+    fn size_hint(&self) -> (usize, Option<usize>) {
+        self.0.size_hint()
+    }
+}
+
+impl DoubleEndedIterator for ValuesIter<'_> {
+    fn next_back(&mut self) -> Option<u64> {
+        self.0.next_back().copied().map(u64::from_le_bytes)
+    }
+}
+
+impl ExactSizeIterator for ValuesIter<'_> {}
+
+impl FusedIterator for ValuesIter<'_> {}
 
 impl fmt::Debug for Values<'_> {
     fn fmt(&self, f: &mut fmt::Formatter<'_>) -> fmt::Result {

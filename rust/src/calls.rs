@@ -226,7 +226,7 @@ pub fn slots(s: &[u8], layout: &Layout, bound: Option<usize>, table: &mut [u32])
 }
 
 /// How many places of a key table are enough for the map at a place: a [`walk_map`] with so many never says `Room`. As many as the map says
-/// it has entries, or one more than have room in the file, at 33 bytes each.
+/// it has entries, or one more than have room in the file, at 33 bytes each, whichever is less; 0 where it has no count.
 ///
 /// ```
 /// use vekalumist::{places, ByteOffset};

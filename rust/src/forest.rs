@@ -1,5 +1,7 @@
 //! A file and its layout together.
 
+use core::fmt;
+
 use crate::in_turn::in_turn;
 use crate::{
     children, digest, digest_with_table, entry, flags, order, places, root, scan, slots, strict, AdviceMap, Children, Entry, Facts, Layout,
@@ -36,7 +38,7 @@ use crate::{
 /// assert_eq!((advice.len(), advice.trailing()), (0, 0));
 /// # Ok::<(), vekalumist::Refusal>(())
 /// ```
-#[derive(Clone, Copy, Debug, PartialEq, Eq, Hash)]
+#[derive(Clone, Copy, PartialEq, Eq, Hash)]
 #[must_use]
 pub struct Forest<'a> {
     bytes: &'a [u8],
@@ -166,7 +168,7 @@ impl<'a> Forest<'a> {
     }
 
     /// How many places of a key table are enough for [`Forest::advice`], which then never says `Room`: as many as the map says it has
-    /// entries, or one more than have room in the file.
+    /// entries, or one more than have room in the file, whichever is less.
     #[must_use]
     pub fn key_places(&self) -> usize {
         places(self.bytes, self.layout.advice_map_offset)
@@ -178,6 +180,13 @@ impl<'a> Forest<'a> {
     /// As [`walk_map`](crate::walk_map); place: a `Byte`; the whole table is zero then.
     pub fn advice<'k>(&self, keys: &'k mut [u64]) -> Result<AdviceMap<'a, 'k>, Refusal> {
         AdviceMap::walk(self.bytes, self.layout.advice_map_offset, keys)
+    }
+}
+
+/// The layout, and of the file, which may be large, its length.
+impl fmt::Debug for Forest<'_> {
+    fn fmt(&self, f: &mut fmt::Formatter<'_>) -> fmt::Result {
+        f.debug_struct("Forest").field("bytes", &self.bytes.len()).field("layout", &self.layout).finish()
     }
 }
 
@@ -213,7 +222,7 @@ fn numbered(forest: &Forest<'_>, index: usize) -> Result<(NodeId, Entry), Refusa
 /// assert_eq!(forest.digest(NodeId(0))?, Word([7, 0, 0, 0])); // the same, by counting
 /// # Ok::<(), vekalumist::Refusal>(())
 /// ```
-#[derive(Clone, Copy, Debug)]
+#[derive(Clone, Copy)]
 #[must_use]
 pub struct SlotTable<'a, 't> {
     forest: Forest<'a>,
@@ -237,5 +246,12 @@ impl SlotTable<'_, '_> {
     #[inline]
     pub fn digest(&self, id: NodeId) -> Result<Word, Refusal> {
         digest_with_table(self.forest.bytes, &self.forest.layout, id.index(), self.table)
+    }
+}
+
+/// The file and its layout; not the table, which may be large.
+impl fmt::Debug for SlotTable<'_, '_> {
+    fn fmt(&self, f: &mut fmt::Formatter<'_>) -> fmt::Result {
+        f.debug_tuple("SlotTable").field(&self.forest).finish()
     }
 }

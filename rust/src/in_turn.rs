@@ -1,6 +1,6 @@
 //! Iterators over what is read by index.
 
-/// An iterator that reads rows 0 to a number in turn, from either end.
+/// An iterator that reads rows 0 to a number in turn, from either end. What it skips it does not read.
 macro_rules! in_turn {
     ($(#[$said:meta])* $name:ident<$($life:lifetime),*> of $over:ty, $read:expr, giving $item:ty) => {
         $(#[$said])*
@@ -27,12 +27,25 @@ macro_rules! in_turn {
             fn size_hint(&self) -> (usize, Option<usize>) {
                 self.left.size_hint()
             }
+
+            fn count(self) -> usize {
+                self.left.len()
+            }
+
+            fn last(mut self) -> Option<Self::Item> {
+                self.next_back()
+            }
         }
 
         impl<$($life),*> DoubleEndedIterator for $name<$($life),*> {
             #[inline]
             fn next_back(&mut self) -> Option<Self::Item> {
                 self.left.next_back().map(|index| $read(&self.over, index))
+            }
+
+            #[inline]
+            fn nth_back(&mut self, n: usize) -> Option<Self::Item> {
+                self.left.nth_back(n).map(|index| $read(&self.over, index))
             }
         }
 

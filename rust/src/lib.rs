@@ -1,7 +1,8 @@
 //! A proved reader and writer for compiled program files (serialized MAST forests of the Miden VM), called from Rust.
 //!
 //! Every answer here is that of one function of the proved archive (the repository's `crates/vekalumist`), with its numbers turned into
-//! types; nothing is judged on this side. Any bytes, any place, any hand-made [`Layout`] and any table get an answer, or a [`Refusal`] with
+//! types; nothing is judged on this side. ([`Forest::check_roots`] asks it for each root; [`Layout::root_offset`], [`Layout::entry_offset`]
+//! and [`key_order`] are sums and a sort of this crate's own.) Any bytes, any place, any hand-made [`Layout`] and any table get an answer, or a [`Refusal`] with
 //! its number and its place, and nothing panics on them.
 //!
 //! ```
@@ -42,7 +43,7 @@
 //!
 //! # Features
 //!
-//! `std`, on by default: [`write()`](fn@write), which sorts keys in memory of its own, and [`Refusal`] as an I/O error. Without it the crate is
+//! `std`, on by default: `write`, which sorts keys in memory of its own, and [`Refusal`] as an I/O error. Without it the crate is
 //! `no_std` and allocates nothing: what a call needs is lent.
 
 #![no_std]
@@ -68,7 +69,7 @@ mod sys;
 mod units;
 mod writer;
 
-pub use advice::{AdviceEntry, AdviceIter, AdviceMap, Values};
+pub use advice::{AdviceEntry, AdviceIter, AdviceMap, Values, ValuesIter};
 pub use calls::*;
 pub use entry::{Children, Entry};
 pub use facts::{Facts, ScanOptions};

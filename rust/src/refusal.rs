@@ -12,13 +12,13 @@ macro_rules! kinds {
         pub enum Kind {
             $($(#[$said])* $kind,)*
             /// A number that this version of the crate does not know, of a refusal or in an answer: the linked archive is of another version,
-            /// or broken ([`version`](crate::version) says which it is).
+            /// or broken ([`version`](crate::version) says which it is). No call gives it with a number that has a kind above.
             Unknown(u64),
         }
 
         impl Kind {
             /// All that this version knows, by number, the first having number 1.
-            pub const ALL: [Kind; [$($number),*].len()] = [$(Kind::$kind),*];
+            pub const ALL: &'static [Kind] = &[$(Kind::$kind),*];
 
             /// The refusal's number.
             #[must_use]
@@ -106,6 +106,13 @@ kinds! {
     /// node; 2, hashes are not 32 bytes for each internal node, or not none in a hashless file; 3, keys are not four numbers for each
     /// length; 4, values are not as many as the lengths' sum.
     Parts 23 "PARTS" "two parts do not fit each other",
+}
+
+/// The name, as the table of numbers has it.
+impl fmt::Display for Kind {
+    fn fmt(&self, f: &mut fmt::Formatter<'_>) -> fmt::Result {
+        f.pad(self.name())
+    }
 }
 
 /// Where something was refused, by what is counted. Which of them a refusal has depends on the function alone, or on the function and the
@@ -214,7 +221,7 @@ mod tests {
 
     #[test]
     fn each_number_is_one_kind() {
-        for (i, kind) in Kind::ALL.into_iter().enumerate() {
+        for (i, &kind) in Kind::ALL.iter().enumerate() {
             assert_eq!(kind.number(), i as u64 + 1);
             assert_eq!(Kind::of_number(kind.number()), kind);
         }

@@ -1,5 +1,5 @@
-//! Types as rows of numbers, and back; and what the places of each function count. The archive's promises say which numbers a row can hold;
-//! others mean another archive, and become [`Kind::Unknown`].
+//! Types as rows of numbers, and back; and what the places of each function count. The archive's promises say which numbers a row can hold. A
+//! number that no type can hold means another archive, and becomes [`Kind::Unknown`].
 
 use crate::{ByteOffset, Count, Entry, Facts, Kind, Lookup, MapEntry, Place, Refusal, Walked, Word};
 

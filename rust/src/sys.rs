@@ -127,8 +127,11 @@ extern "C" {
 const _: () = assert!(size_of::<Layout>() == 12 * 8 && size_of::<HashSection>() == 2 * 8 && size_of::<ByteOffset>() == 8);
 const _: () = assert!(offset_of!(Layout, node_hashes) == 9 * 8 && offset_of!(Layout, advice_map_offset) == 11 * 8);
 
-/// What an answer may be stored into: any bits are a value.
-trait Row: Copy {
+/// What an answer may be stored into.
+///
+/// # Safety
+/// Any bits are a value of such a type.
+unsafe trait Row: Copy {
     /// The value that was stored.
     ///
     /// # Safety
@@ -138,14 +141,16 @@ trait Row: Copy {
     }
 }
 
-impl Row for u8 {}
-impl Row for u32 {}
-impl Row for u64 {}
-impl Row for Layout {}
+// SAFETY: numbers, and a struct of numbers.
+unsafe impl Row for u8 {}
+unsafe impl Row for u32 {}
+unsafe impl Row for u64 {}
+unsafe impl Row for Layout {}
 
 /// The numbers of a row were stored one by one, and are read one by one: a compiler would read two at once, and such a read waits until both
 /// stores are done (10 ns and more).
-impl<const N: usize> Row for [u64; N] {
+// SAFETY: numbers.
+unsafe impl<const N: usize> Row for [u64; N] {
     #[inline(always)]
     unsafe fn taken(row: &MaybeUninit<Self>) -> Self {
         let first = row.as_ptr().cast::<u64>();
@@ -154,32 +159,37 @@ impl<const N: usize> Row for [u64; N] {
 }
 
 /// Lends memory for the answer and for a refusal's place, and reads the one that was stored. `placed` says what the place counts.
+///
+/// # Safety
+/// The call stores a whole answer and gives 0, or stores a place and gives another number.
 #[inline(always)]
-fn told<R: Row>(placed: impl FnOnce(Kind, usize) -> Place, call: impl FnOnce(*mut R, *mut u64) -> u64) -> Result<R, Refusal> {
+unsafe fn told<R: Row>(placed: impl FnOnce(Kind, usize) -> Place, call: impl FnOnce(*mut R, *mut u64) -> u64) -> Result<R, Refusal> {
     let mut row = MaybeUninit::<R>::uninit();
     held(placed, |place| call(row.as_mut_ptr(), place))?;
-    // SAFETY: where nothing is refused, the archive stored the whole row.
-    Ok(unsafe { R::taken(&row) })
+    Ok(R::taken(&row))
 }
 
 /// The same of a call that answers nothing but that it holds.
+///
+/// # Safety
+/// The call gives 0, or stores a place and gives another number.
 #[inline(always)]
-fn held(placed: impl FnOnce(Kind, usize) -> Place, call: impl FnOnce(*mut u64) -> u64) -> Result<(), Refusal> {
+unsafe fn held(placed: impl FnOnce(Kind, usize) -> Place, call: impl FnOnce(*mut u64) -> u64) -> Result<(), Refusal> {
     let mut place = MaybeUninit::<u64>::uninit();
     match call(place.as_mut_ptr()) {
         0 => Ok(()),
         number => {
             let kind = Kind::of_number(number);
-            // SAFETY: with a refusal's number the archive stored its place.
-            let place = unsafe { place.assume_init() };
-            Err(Refusal { kind, place: placed(kind, place as usize) })
+            Err(Refusal { kind, place: placed(kind, place.assume_init() as usize) })
         }
     }
 }
 
-// In each call below pointer and length are of one slice that is borrowed for the call, mutably where the function writes, and every other
-// pointer is of one value that is borrowed likewise; the archive reads and writes inside the lengths only, and keeps no pointer. What
-// answers for one count, word, row or key is inlined into its caller, here and in lib.rs: the answer is then made where it is used.
+// SAFETY of each call below: pointer and length are of one slice that is borrowed for the call, mutably where the function writes, and every
+// other pointer is of one value that is borrowed likewise; the archive reads and writes inside the lengths only, keeps no pointer, and stores an
+// answer or a place. That is so of the archive of this version: the build script takes no other.
+//
+// What answers for one count, word, row or key is inlined into its caller, here and in calls.rs: the answer is then made where it is used.
 
 /// The entry of a row. It is made without a branch on its kind: the archive has just taken one, and entries in any order let a second one guess
 /// wrong as often (4 ns).
@@ -198,7 +208,7 @@ pub(crate) fn version() -> u64 {
 
 #[inline]
 pub(crate) fn read_count(s: &[u8], at: usize) -> Result<Count, Refusal> {
-    told(places::bytes, |row, place| unsafe { veka_raw_read_count(s.as_ptr(), s.len(), at, row, place) }).map(rows::count)
+    unsafe { told(places::bytes, |row, place| veka_raw_read_count(s.as_ptr(), s.len(), at, row, place)) }.map(rows::count)
 }
 
 #[inline]
@@ -208,68 +218,70 @@ pub(crate) fn shortest_len(v: u64) -> u64 {
 
 #[inline]
 pub(crate) fn write_count(out: &mut [u8], at: usize, v: u64) -> Result<u64, Refusal> {
-    told(places::bytes, |row, place| unsafe { veka_raw_write_count(out.as_mut_ptr(), out.len(), at, v, row, place) })
+    unsafe { told(places::bytes, |row, place| veka_raw_write_count(out.as_mut_ptr(), out.len(), at, v, row, place)) }
 }
 
 #[inline]
 pub(crate) fn decode_entry(word: u64) -> Result<Entry, Refusal> {
-    told(places::of_a_word, |row, place| unsafe { veka_decode_entry(word, row, place) }).and_then(entry_of)
+    unsafe { told(places::of_a_word, |row, place| veka_decode_entry(word, row, place)) }.and_then(entry_of)
 }
 
 #[inline]
 pub(crate) fn encode_entry(entry: &[u64; 3]) -> Result<u64, Refusal> {
-    told(places::of_a_word, |row, place| unsafe { veka_encode_entry(entry, row, place) })
+    unsafe { told(places::of_a_word, |row, place| veka_encode_entry(entry, row, place)) }
 }
 
 #[inline]
 pub(crate) fn flags(s: &[u8]) -> Result<u8, Refusal> {
-    told(places::bytes, |row, place| unsafe { veka_raw_flags(s.as_ptr(), s.len(), row, place) })
+    unsafe { told(places::bytes, |row, place| veka_raw_flags(s.as_ptr(), s.len(), row, place)) }
 }
 
 pub(crate) fn scan(s: &[u8], facts: &Facts, allow: bool, bound: &[u64; 2]) -> Result<Layout, Refusal> {
     let marks = rows::marks(facts);
-    told(places::bytes, |row, place| unsafe { veka_raw_scan(s.as_ptr(), s.len(), &marks, facts.max_nodes, allow, bound, row, place) })
+    unsafe { told(places::bytes, |row, place| veka_raw_scan(s.as_ptr(), s.len(), &marks, facts.max_nodes, allow, bound, row, place)) }
 }
 
 #[inline]
 pub(crate) fn root(s: &[u8], layout: &Layout, index: usize) -> Result<NodeId, Refusal> {
-    told(places::roots, |row, place| unsafe { veka_raw_root(s.as_ptr(), s.len(), layout, index, row, place) }).map(NodeId)
+    unsafe { told(places::roots, |row, place| veka_raw_root(s.as_ptr(), s.len(), layout, index, row, place)) }.map(NodeId)
 }
 
 #[inline]
 pub(crate) fn entry(s: &[u8], layout: &Layout, index: usize) -> Result<Entry, Refusal> {
-    told(places::nodes, |row, place| unsafe { veka_raw_entry(s.as_ptr(), s.len(), layout, index, row, place) }).and_then(entry_of)
+    unsafe { told(places::nodes, |row, place| veka_raw_entry(s.as_ptr(), s.len(), layout, index, row, place)) }.and_then(entry_of)
 }
 
 pub(crate) fn children(s: &[u8], layout: &Layout) -> Result<(), Refusal> {
-    held(places::nodes, |place| unsafe { veka_raw_children(s.as_ptr(), s.len(), layout, place) })
+    unsafe { held(places::nodes, |place| veka_raw_children(s.as_ptr(), s.len(), layout, place)) }
 }
 
 pub(crate) fn order(s: &[u8], layout: &Layout) -> Result<(), Refusal> {
-    held(places::nodes, |place| unsafe { veka_raw_order(s.as_ptr(), s.len(), layout, place) })
+    unsafe { held(places::nodes, |place| veka_raw_order(s.as_ptr(), s.len(), layout, place)) }
 }
 
 pub(crate) fn strict(s: &[u8], layout: &Layout) -> Result<(), Refusal> {
-    held(places::nodes, |place| unsafe { veka_raw_strict(s.as_ptr(), s.len(), layout, place) })
+    unsafe { held(places::nodes, |place| veka_raw_strict(s.as_ptr(), s.len(), layout, place)) }
 }
 
 #[inline]
 pub(crate) fn digest(s: &[u8], layout: &Layout, index: usize) -> Result<Word, Refusal> {
-    told(places::nodes, |row, place| unsafe { veka_raw_digest(s.as_ptr(), s.len(), layout, index, row, place) }).map(Word)
+    unsafe { told(places::nodes, |row, place| veka_raw_digest(s.as_ptr(), s.len(), layout, index, row, place)) }.map(Word)
 }
 
 #[inline]
 pub(crate) fn digest_with_table(s: &[u8], layout: &Layout, index: usize, table: &[u32]) -> Result<Word, Refusal> {
-    told(places::nodes, |row, place| unsafe {
-        veka_raw_digest_with_table(s.as_ptr(), s.len(), layout, index, table.as_ptr(), table.len(), row, place)
-    })
+    unsafe {
+        told(places::nodes, |row, place| {
+            veka_raw_digest_with_table(s.as_ptr(), s.len(), layout, index, table.as_ptr(), table.len(), row, place)
+        })
+    }
     .map(Word)
 }
 
 pub(crate) fn slots(s: &[u8], layout: &Layout, bound: &[u64; 2], table: &mut [u32]) -> Result<Option<usize>, Refusal> {
-    told(places::of_slots, |row, place| unsafe {
-        veka_raw_slots(s.as_ptr(), s.len(), layout, bound, table.as_mut_ptr(), table.len(), row, place)
-    })
+    unsafe {
+        told(places::of_slots, |row, place| veka_raw_slots(s.as_ptr(), s.len(), layout, bound, table.as_mut_ptr(), table.len(), row, place))
+    }
     .map(rows::bound)
 }
 
@@ -279,65 +291,67 @@ pub(crate) fn places(s: &[u8], at: usize) -> u64 {
 }
 
 pub(crate) fn walk(s: &[u8], at: usize, keys: &mut [u64]) -> Result<Walked, Refusal> {
-    told(places::bytes, |row, place| unsafe { veka_raw_walk(s.as_ptr(), s.len(), at, keys.as_mut_ptr(), keys.len(), row, place) })
+    unsafe { told(places::bytes, |row, place| veka_raw_walk(s.as_ptr(), s.len(), at, keys.as_mut_ptr(), keys.len(), row, place)) }
         .map(rows::walked)
 }
 
 #[inline]
 pub(crate) fn key(s: &[u8], keys: &[u64], index: usize) -> Result<Word, Refusal> {
-    told(places::of_a_key, |row, place| unsafe { veka_raw_key(s.as_ptr(), s.len(), keys.as_ptr(), keys.len(), index, row, place) })
+    unsafe { told(places::of_a_key, |row, place| veka_raw_key(s.as_ptr(), s.len(), keys.as_ptr(), keys.len(), index, row, place)) }
         .map(Word)
 }
 
 #[inline]
 pub(crate) fn map_entry(s: &[u8], keys: &[u64], index: usize) -> Result<MapEntry, Refusal> {
-    told(places::of_a_key, |row, place| unsafe { veka_raw_map_entry(s.as_ptr(), s.len(), keys.as_ptr(), keys.len(), index, row, place) })
+    unsafe { told(places::of_a_key, |row, place| veka_raw_map_entry(s.as_ptr(), s.len(), keys.as_ptr(), keys.len(), index, row, place)) }
         .map(rows::map_entry)
 }
 
 #[inline]
 pub(crate) fn lookup(s: &[u8], keys: &[u64], n: usize, key: &[u64; 4]) -> Result<Lookup, Refusal> {
-    told(places::of_a_lookup, |row, place| unsafe { veka_raw_lookup(s.as_ptr(), s.len(), keys.as_ptr(), keys.len(), n, key, row, place) })
+    unsafe { told(places::of_a_lookup, |row, place| veka_raw_lookup(s.as_ptr(), s.len(), keys.as_ptr(), keys.len(), n, key, row, place)) }
         .map(rows::looked)
 }
 
 /// Whether the key is there, and the place and the bytes of its values.
 #[inline]
 pub(crate) fn values(s: &[u8], keys: &[u64], n: usize, key: &[u64; 4]) -> Result<[u64; 3], Refusal> {
-    told(places::of_a_lookup, |row, place| unsafe { veka_raw_values(s.as_ptr(), s.len(), keys.as_ptr(), keys.len(), n, key, row, place) })
+    unsafe { told(places::of_a_lookup, |row, place| veka_raw_values(s.as_ptr(), s.len(), keys.as_ptr(), keys.len(), n, key, row, place)) }
 }
 
 pub(crate) fn write(facts: &Facts, parts: &Parts<'_>, order: &[u64], out: &mut [u8]) -> Result<u64, Refusal> {
     let marks = rows::marks(facts);
-    told(places::of_the_writer, |row, place| unsafe {
-        veka_raw_write(
-            &marks,
-            facts.max_nodes,
-            parts.flags,
-            parts.roots.as_ptr().cast(), // a NodeId is its number
-            parts.roots.len(),
-            parts.blocks.as_ptr(),
-            parts.blocks.len(),
-            parts.words.as_ptr(),
-            parts.words.len(),
-            parts.external.as_ptr(),
-            parts.external.len(),
-            parts.hashes.as_ptr(),
-            parts.hashes.len(),
-            parts.keys.as_ptr(),
-            parts.keys.len(),
-            parts.lengths.as_ptr(),
-            parts.lengths.len(),
-            parts.values.as_ptr(),
-            parts.values.len(),
-            order.as_ptr(),
-            order.len(),
-            out.as_mut_ptr(),
-            out.len(),
-            row,
-            place,
-        )
-    })
+    unsafe {
+        told(places::of_the_writer, |row, place| {
+            veka_raw_write(
+                &marks,
+                facts.max_nodes,
+                parts.flags,
+                parts.roots.as_ptr().cast(), // a NodeId is its number
+                parts.roots.len(),
+                parts.blocks.as_ptr(),
+                parts.blocks.len(),
+                parts.words.as_ptr(),
+                parts.words.len(),
+                parts.external.as_ptr(),
+                parts.external.len(),
+                parts.hashes.as_ptr(),
+                parts.hashes.len(),
+                parts.keys.as_ptr(),
+                parts.keys.len(),
+                parts.lengths.as_ptr(),
+                parts.lengths.len(),
+                parts.values.as_ptr(),
+                parts.values.len(),
+                order.as_ptr(),
+                order.len(),
+                out.as_mut_ptr(),
+                out.len(),
+                row,
+                place,
+            )
+        })
+    }
 }
 
 #[cfg(test)]
@@ -390,8 +404,8 @@ mod tests {
             *place = 6;
             99
         };
-        assert_eq!(told(places::bytes, call), Err(Refusal { kind: Kind::Unknown(99), place: Place::Byte(ByteOffset(6)) }));
-        assert_eq!(told(places::of_the_writer, call), Err(Refusal { kind: Kind::Unknown(99), place: Place::Number(6) }));
+        assert_eq!(unsafe { told(places::bytes, call) }, Err(Refusal { kind: Kind::Unknown(99), place: Place::Byte(ByteOffset(6)) }));
+        assert_eq!(unsafe { told(places::of_the_writer, call) }, Err(Refusal { kind: Kind::Unknown(99), place: Place::Number(6) }));
     }
 
     // The kinds and numbers that an Entry cannot hold.

@@ -39,6 +39,27 @@ impl From<NodeId> for u32 {
     }
 }
 
+/// An index as an id; an index of more than 32 bits names no node of a file.
+impl TryFrom<usize> for NodeId {
+    type Error = core::num::TryFromIntError;
+
+    fn try_from(index: usize) -> Result<NodeId, Self::Error> {
+        index.try_into().map(NodeId)
+    }
+}
+
+impl From<ByteOffset> for usize {
+    fn from(at: ByteOffset) -> usize {
+        at.0
+    }
+}
+
+impl From<Slot> for usize {
+    fn from(slot: Slot) -> usize {
+        slot.0
+    }
+}
+
 macro_rules! shown_as_numbers {
     ($($unit:ident),*) => {$(
         impl fmt::Display for $unit {

@@ -32,9 +32,7 @@ pub struct Parts<'a> {
 /// n log n comparisons. Without the feature `std` there is [`write_with_order`], which allocates nothing.
 ///
 /// # Errors
-/// `Format`, place: `Number(0)`; `Flags`, place: `Byte(4)`; `TooMany`, place: `Number(0)`; `Tag`, `Payload`, place: the `Node`; `Parts`,
-/// place: which `Part` ([`Kind::Parts`](crate::Kind::Parts)); `Element`, `Duplicate`, place: the `Key`, by its number from 0; `Overflow`,
-/// place: `Number(0)`; `Room`, place: the `Bytes` that the file needs. The output is as it was.
+/// As [`write_with_order`].
 ///
 /// ```
 /// use vekalumist::{write, Facts, Kind, NodeId, Parts, Place, Refusal};
@@ -62,12 +60,14 @@ fn needs_order(parts: &Parts<'_>) -> bool {
     rest.is_empty() && keys.len() == parts.lengths.len() && !keys.is_sorted_by(|a, b| a < b)
 }
 
-/// As [`write()`](fn@write), with a claim on the order of the keys: their numbers in rising order of the keys, equal keys by rising number.
+/// As `write`, with a claim on the order of the keys: their numbers in rising order of the keys, equal keys by rising number.
 /// [`key_order`] makes it in lent memory. A claim changes the time and no answer: with a true one, or with keys that rise, n keys take n
 /// comparisons; else up to n * n / 2.
 ///
 /// # Errors
-/// As [`write()`](fn@write).
+/// `Format`, place: `Number(0)`; `Flags`, place: `Byte(4)`; `TooMany`, place: `Number(0)`; `Tag`, `Payload`, place: the `Node`; `Parts`,
+/// place: which `Part` ([`Kind::Parts`](crate::Kind::Parts)); `Element`, `Duplicate`, place: the `Key`, by its number from 0; `Overflow`,
+/// place: `Number(0)`; `Room`, place: the `Bytes` that the file needs. The output is as it was.
 ///
 /// ```
 /// use vekalumist::{key_order, write_with_order, Facts, Parts};

@@ -1,4 +1,5 @@
 //! Whole files: what the samples hold, and that their parts make them again.
+#![cfg(feature = "std")] // the writer that sorts makes the files
 
 mod common;
 use common::*;

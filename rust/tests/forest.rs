@@ -1,4 +1,5 @@
 //! A file and its layout held together: what the readers by index say, by node ids, in turn and by table.
+#![cfg(feature = "std")] // the writer that sorts makes the files
 
 mod common;
 use common::*;
@@ -40,6 +41,7 @@ fn roots_and_nodes_come_in_turn() {
     assert_eq!(nodes, [(NodeId(0), entries[0]), (NodeId(1), entries[1]), (NodeId(2), entries[2])]);
     assert!(forest.nodes().rev().map(Result::unwrap).eq(nodes.iter().rev().copied()));
     assert_eq!((forest.nodes().len(), forest.nodes().nth(2), forest.nodes().nth(3)), (3, Some(Ok(nodes[2])), None));
+    assert_eq!((forest.nodes().count(), forest.nodes().last(), forest.nodes().nth_back(1)), (3, Some(Ok(nodes[2])), Some(Ok(nodes[1]))));
     assert_eq!((forest.entry(NodeId(1)), forest.entry(NodeId(3))), (Ok(entries[1]), no(Kind::Index, Node(3))));
     assert!(forest.children(NodeId(2)).unwrap().eq([NodeId(0), NodeId(1)]));
     assert_eq!(forest.children(NodeId(9)).err(), forest.entry(NodeId(9)).err());
@@ -164,6 +166,7 @@ fn a_kept_layout_serves_as_well_as_a_new_one_and_any_gets_an_answer() {
     assert_eq!((far.root(usize::MAX), far.root(0)), (no(Kind::Index, Root(usize::MAX)), no(Kind::Overflow, Root(0))));
     assert_eq!((far.entry(most), far.digest(most)), (no(Kind::Overflow, Node(u32::MAX as usize)), no(Kind::Overflow, Node(0))));
     assert_eq!((far.nodes().len(), far.nodes().next_back()), (1 << 32, Some(no(Kind::Overflow, Node(u32::MAX as usize)))));
+    assert_eq!((far.roots().count(), far.roots().last()), (usize::MAX, Some(no(Kind::Overflow, Root(usize::MAX - 1))))); // at once
     assert_eq!((far.roots().next(), far.check_roots()), (Some(no(Kind::Overflow, Root(0))), no(Kind::Overflow, Root(0))));
     assert_eq!(far.slots(&mut []).err(), no::<()>(Kind::TooMany, Number(0)).err());
     assert_eq!((far.key_places(), far.advice(&mut []).err()), (0, no::<()>(Kind::Short, byte(usize::MAX)).err()));
@@ -171,6 +174,22 @@ fn a_kept_layout_serves_as_well_as_a_new_one_and_any_gets_an_answer() {
     // a layout's own counts are held against
     let two = Forest::with_layout(&file, with(layout, |layout| layout.node_count = 2));
     assert_eq!((two.nodes().len(), two.root(0)), (2, no(Kind::RootId, Root(0))));
+}
+
+#[test]
+fn large_files_and_tables_are_not_shown() {
+    let file = made(&Parts { blocks: &[7; 100_000], ..Parts::default() });
+    let forest = forest(&file);
+    let (mut table, mut keys) = (vec![0; 100_000], vec![0; 100_000]);
+    let texts = [format!("{forest:?}"), format!("{:?}", forest.slots(&mut table)), format!("{:?}", forest.advice(&mut keys))];
+    assert!(texts.iter().all(|text| text.len() < 1000), "{texts:?}");
+}
+
+#[test]
+fn indexes_are_ids_where_they_have_32_bits() {
+    assert_eq!(NodeId::try_from(u32::MAX as usize), Ok(NodeId(u32::MAX)));
+    assert!(NodeId::try_from(1_usize << 32).is_err());
+    assert_eq!((usize::from(ByteOffset(7)), usize::from(Slot(8)), u32::from(NodeId(9)), NodeId::from(9)), (7, 8, 9, NodeId(9)));
 }
 
 #[test]

@@ -1,4 +1,5 @@
 //! What lent memory holds afterwards: beside what is written all stays, a refusal writes nothing, and a refused walk zeroes its table.
+#![cfg(feature = "std")] // the writer that sorts makes the files
 
 mod common;
 use common::*;

@@ -1,27 +1,9 @@
 //! Digests with a lent slot table, the key table's places, and values as a part of the file.
+#![cfg(feature = "std")] // the writer that sorts makes the files
 
 mod common;
 use common::*;
 use vekalumist::*;
-
-#[test]
-fn both_ways_to_a_digest_agree() {
-    let file = made(&Parts {
-        words: &[BLOCK_0, EXTERNAL, BLOCK_0, EXTERNAL, DYN],
-        external: &digests(&[10, 11]),
-        hashes: &digests(&[20, 21, NOT_AN_ELEMENT]),
-        ..Parts::default()
-    });
-    let layout = scanned(&file);
-    let mut table = [0; 5];
-    slots(&file, &layout, None, &mut table).unwrap();
-    let with_table = |index| digest_with_table(&file, &layout, index, &table);
-    for index in 0..6 {
-        assert_eq!(with_table(index), digest(&file, &layout, index), "node {index}");
-    }
-    assert_eq!((with_table(2), with_table(3)), (Ok(Word([21, 0, 0, 0])), Ok(Word([11, 0, 0, 0]))));
-    assert_eq!((with_table(4), with_table(5)), (no(Kind::Element, Node(4)), no(Kind::Index, Node(5))));
-}
 
 #[test]
 fn a_table_is_taken_as_it_is() {

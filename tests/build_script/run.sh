@@ -1,6 +1,6 @@
 #!/bin/sh
 # run.sh ARCHIVE: the Rust crate's build script, with the proved archive in the folder ARCHIVE. What it says where rt is not there, where there
-# is no archive, or one for another machine; and that it proves a copy: with an rt that only hands the archive over, the build succeeds, what
+# is no archive, or one for another machine or of another version; and that it proves a copy: with an rt that only hands the archive over, the build succeeds, what
 # rt says comes to standard error, and nothing is written into the source tree.
 set -eu
 [ $# -eq 1 ] && [ -r "$1/libvekalumist.a" ] || { echo "usage: run.sh ARCHIVE" >&2; exit 2; }
@@ -16,7 +16,7 @@ mkdir "$work/repo" "$work/bin" "$work/kit"
 cp -R "$root/rust" "$root/crates.txt" "$work/repo"
 mkdir "$work/repo/tools" "$work/repo/crates"
 cp "$root/tools/archive.sh" "$work/repo/tools"
-cp -R "$root/crates/wire" "$work/repo/crates/wire"
+cp -R "$root/crates/wire" "$root/crates/vekalumist" "$work/repo/crates"
 rm -rf "$work/repo/rust/target"
 for tool in cargo rustc cc gcc ld as sh cat cp mkdir rm sed tee grep tail uname dirname basename pwd; do
     ln -s "$(command -v $tool)" "$work/bin/$tool"
@@ -54,7 +54,8 @@ export VEKALUMIST_ARCHIVE="$work/nowhere"
 fails no_archive "$work/bin" 'VEKALUMIST_ARCHIVE: there is no .*nowhere/libvekalumist.a'
 
 # other BYTE: an archive whose first object is for another machine
-mkdir "$work/other" "$work/text"
+mkdir "$work/other" "$work/text" "$work/older" "$work/alone"
+cp "$(dirname "$archive")/libvekalumist.version" "$work/other"
 python3 - "$archive" "$work/other/libvekalumist.a" <<'CODE'
 import sys
 data = bytearray(open(sys.argv[1], "rb").read())
@@ -67,6 +68,13 @@ fails other_machine "$work/bin" 'libvekalumist.a is for .*, and this build for '
 echo 'no archive' >"$work/text/libvekalumist.a"
 VEKALUMIST_ARCHIVE=$work/text
 fails no_object "$work/bin" 'is for no machine that is known here'
+cp "$archive" "$work/older"
+cp "$archive" "$work/alone"
+echo 200 >"$work/older/libvekalumist.version"
+VEKALUMIST_ARCHIVE=$work/older
+fails older "$work/bin" 'libvekalumist.version says 200, and this crate is '
+VEKALUMIST_ARCHIVE=$work/alone
+fails no_version "$work/bin" 'libvekalumist.version is not there, and this crate is '
 VEKALUMIST_ARCHIVE=$(dirname "$archive")
 build named "$work/bin"
 agrees 'a named archive' [ "$ended" = 0 ]
@@ -89,6 +97,11 @@ RT
     agrees 'made, how far it is' grep -q 'rt: wire proved (1 s)' "$work/made.log"
     agrees 'made, in a copy' grep -q "^$work/target-made/" "$work/proved_in"
     agrees 'made, the source tree as it was' cmp -s "$work/before" "$work/after"
+    rm "$work/proved_in"
+    export CARGO_BUILD_TARGET=aarch64-unknown-linux-gnu
+    fails other_target "$work/kit:$work/bin" 'no archive for aarch64-unknown-linux-gnu can be made on x86_64'
+    agrees 'another target, nothing proved' [ ! -e "$work/proved_in" ]
+    unset CARGO_BUILD_TARGET
     printf '#!/bin/sh\n[ "$1" = version ] || { echo "rt: wire NOT PROVED"; exit 1; }\n' >"$work/kit/rt"
     fails not_proved "$work/kit:$work/bin" 'the library was not proved and built'
     agrees 'not proved, what rt said' grep -q 'rt: wire NOT PROVED' "$work/not_proved.log"

@@ -73,7 +73,9 @@ fn of_command(command: &'static Command, words: &[OsString]) -> Result<Asked, St
                     ("", None) => "",
                     ("", Some(_)) => return Err(format!("{name} has no value")),
                     (_, Some(value)) => value,
-                    (wanted, None) => words.next().and_then(|word| word.to_str()).ok_or_else(|| format!("{name} has a value: {wanted}"))?,
+                    (wanted, None) => {
+                        words.next().and_then(|word| word.to_str()).ok_or_else(|| format!("{name} needs a value, {wanted}"))?
+                    }
                 };
                 match choice.name {
                     "--help" => return Ok(Asked::Text(help::of(command))),

@@ -4,7 +4,7 @@ use vekalumist::{Forest, Refusal};
 
 use crate::args::Run;
 use crate::tell::Value::{Number, Refused, Text, Truth};
-use crate::tell::{Stop, Tell};
+use crate::tell::{table, Stop, Tell};
 
 type Check = fn(&Forest<'_>) -> Result<(), Refusal>;
 
@@ -17,7 +17,7 @@ const CHECKS: [(&str, Check); 4] = [
 
 pub fn check(run: &Run, bytes: &[u8], tell: &mut Tell<'_>) -> Result<(), Stop> {
     let forest = run.scan(bytes)?;
-    let mut keys = vec![0; forest.key_places()];
+    let mut keys = table(forest.key_places())?;
     let map = forest.advice(&mut keys);
     tell.records(&[], "checks", |rows| {
         let mut said = |name: &'static str, held: Result<(), Refusal>| match held {
@@ -30,7 +30,7 @@ pub fn check(run: &Run, bytes: &[u8], tell: &mut Tell<'_>) -> Result<(), Stop> {
         said("map", map.map(|_| ()))?;
         match map {
             Ok(map) if map.trailing() > 0 => {
-                let (bytes, at) = (("bytes", "", Number(map.trailing())), ("at", "at", Number(map.end().0)));
+                let (bytes, at) = (("bytes", "found", Number(map.trailing())), ("at", "at", Number(map.end().0)));
                 rows.row(&[("check", "", Text("trailing")), ("ok", "", Truth(false)), bytes, at])?;
                 Ok(rows.why(&format_args!("{} bytes follow the map, the first at byte {}", map.trailing(), map.end()))?)
             }

@@ -105,8 +105,9 @@ pub static CHOICES: [Choice; 7] = [
     choice(
         "--json",
         "",
-        "One line of JSON for each file: an object with its name. Keys, digests and\n\
-         values are texts, all other numbers are numbers.",
+        "One line of JSON for each file: an object with its name, and with `refused`\n\
+         or `error` where nothing else can be said of it. Keys, digests and values\n\
+         are texts, all other numbers are numbers.",
     ),
     Choice { short: "-h", ..choice("--help", "", "This text; after a command, that command's.") },
     Choice { short: "-V", ..choice("--version", "", "The version of this program and of the proved archive in it.") },
@@ -115,7 +116,7 @@ pub static CHOICES: [Choice; 7] = [
 const EXIT: [(&str, &str); 3] = [
     ("0", "Every file was accepted, and every check that was asked for holds."),
     ("1", "A file, or something that was asked of it, was refused. Why is said on\nstandard error: number, name and place."),
-    ("2", "Wrong use, or a file that cannot be read."),
+    ("2", "Wrong use, a file that cannot be read, or an output that cannot be written.\nOf several files the highest status counts."),
 ];
 
 const EXAMPLES: [&str; 4] = [

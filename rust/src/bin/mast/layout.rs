@@ -2,29 +2,28 @@
 
 use std::io::{self, Write};
 
-use vekalumist::{AdviceMap, Forest, Refusal};
+use vekalumist::{AdviceMap, Forest};
 
 use crate::args::Run;
 use crate::tell::Value::{None, Number};
-use crate::tell::{Stop, Tell};
+use crate::tell::{table, Stop, Tell};
 
 pub fn run(run: &Run, bytes: &[u8], tell: &mut Tell<'_>) -> Result<(), Stop> {
     let mut keys = Vec::new();
     match scanned_and_walked(run, bytes, &mut keys) {
         Ok((forest, map)) if tell.json => fields(&forest, &map, tell),
         Ok((forest, map)) => Ok(page(&forest, &map, tell.out)?),
-        Err(refusal) => {
-            if !tell.json {
-                writeln!(tell.out, "refused {} at {}", refusal.kind.number(), refusal.place.number())?;
-            }
+        Err(Stop::Refused(refusal)) if !tell.json => {
+            writeln!(tell.out, "refused {} at {}", refusal.kind.number(), refusal.place.number())?;
             Err(Stop::Refused(refusal))
         }
+        Err(stop) => Err(stop),
     }
 }
 
-fn scanned_and_walked<'a, 'k>(run: &Run, bytes: &'a [u8], keys: &'k mut Vec<u64>) -> Result<(Forest<'a>, AdviceMap<'a, 'k>), Refusal> {
+fn scanned_and_walked<'a, 'k>(run: &Run, bytes: &'a [u8], keys: &'k mut Vec<u64>) -> Result<(Forest<'a>, AdviceMap<'a, 'k>), Stop> {
     let forest = run.scan(bytes)?;
-    keys.resize(forest.key_places(), 0);
+    *keys = table(forest.key_places())?;
     let map = forest.advice(keys)?;
     Ok((forest, map))
 }

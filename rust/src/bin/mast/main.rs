@@ -13,6 +13,7 @@ mod tell;
 use std::ffi::{OsStr, OsString};
 use std::fmt::Display;
 use std::io::{self, Read, Write};
+use std::os::fd::AsFd;
 use std::process::ExitCode;
 use std::{env, fs};
 
@@ -21,7 +22,7 @@ use tell::{Stop, Tell};
 
 /// A file was refused, or a check does not hold.
 const REFUSED: u8 = 1;
-/// Wrong use, or a file that cannot be read.
+/// Wrong use, or a file that cannot be read, or an output that cannot be written.
 const WRONG: u8 = 2;
 
 fn main() -> ExitCode {
@@ -37,10 +38,11 @@ fn main() -> ExitCode {
     };
     match ended.and_then(|status| out.flush().map(|()| status)) {
         Ok(status) => ExitCode::from(status),
-        // whoever reads has had enough
-        Err(error) if error.kind() == io::ErrorKind::BrokenPipe => ExitCode::SUCCESS,
         Err(error) => {
-            complain(&format_args!("standard output: {error}"));
+            // whoever reads may have had enough, and needs no word of it; but not all was said, so it is no success
+            if error.kind() != io::ErrorKind::BrokenPipe {
+                complain(&format_args!("standard output: {error}"));
+            }
             ExitCode::from(WRONG)
         }
     }
@@ -54,24 +56,21 @@ fn all_files(run: &Run, out: &mut dyn Write) -> io::Result<u8> {
         if run.files.len() > 1 && !run.json {
             writeln!(out, "{}==> {name} <==", if i == 0 { "" } else { "\n" })?;
         }
-        let status = match read(file) {
-            Ok(bytes) => one_file(run, &name, &bytes, out)?,
-            Err(error) => {
-                out.flush()?;
-                complain(&format_args!("{name}: {error}"));
-                WRONG
-            }
-        };
-        worst = worst.max(status);
+        worst = worst.max(one_file(run, file, &name, out)?);
     }
     Ok(worst)
 }
 
-fn one_file(run: &Run, name: &str, bytes: &[u8], out: &mut dyn Write) -> io::Result<u8> {
+fn one_file(run: &Run, file: &OsStr, name: &str, out: &mut dyn Write) -> io::Result<u8> {
     let mut tell = Tell::new(name, run.json, out);
-    match (run.command.run)(run, bytes, &mut tell) {
+    let told = read(file).map_err(|error| Stop::Unread(error.to_string())).and_then(|bytes| (run.command.run)(run, &bytes, &mut tell));
+    match told {
         Ok(()) => {}
         Err(Stop::Refused(refusal)) => tell.refused_whole(refusal)?,
+        Err(Stop::Unread(why)) => {
+            tell.unread(&why)?;
+            return Ok(WRONG);
+        }
         Err(Stop::Output(error)) => return Err(error),
     }
     Ok(if tell.refused { REFUSED } else { 0 })
@@ -86,7 +85,9 @@ fn read(file: &OsStr) -> io::Result<Vec<u8>> {
     if file != "-" {
         return fs::read(file);
     }
+    // as a file: the library's own standard input takes one that cannot be read for an empty one
+    let mut input = fs::File::from(io::stdin().as_fd().try_clone_to_owned()?);
     let mut bytes = Vec::new();
-    io::stdin().lock().read_to_end(&mut bytes)?;
+    input.read_to_end(&mut bytes)?;
     Ok(bytes)
 }

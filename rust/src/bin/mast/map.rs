@@ -4,11 +4,11 @@ use vekalumist::{Lookup, Word};
 
 use crate::args::Run;
 use crate::tell::Value::{self, Element, Number};
-use crate::tell::{Stop, Tell};
+use crate::tell::{table, Stop, Tell};
 
 pub fn map(run: &Run, bytes: &[u8], tell: &mut Tell<'_>) -> Result<(), Stop> {
     let forest = run.scan(bytes)?;
-    let mut keys = vec![0; forest.key_places()];
+    let mut keys = table(forest.key_places())?;
     let map = forest.advice(&mut keys)?;
     tell.records(&[], "map", |rows| {
         for entry in &map {
@@ -26,7 +26,7 @@ pub fn map(run: &Run, bytes: &[u8], tell: &mut Tell<'_>) -> Result<(), Stop> {
 
 pub fn lookup(run: &Run, bytes: &[u8], tell: &mut Tell<'_>) -> Result<(), Stop> {
     let forest = run.scan(bytes)?;
-    let mut keys = vec![0; forest.key_places()];
+    let mut keys = table(forest.key_places())?;
     let map = forest.advice(&mut keys)?;
     let key: Word = run.key;
     match map.lookup(key)? {

@@ -4,11 +4,11 @@ use vekalumist::{ByteOffset, Entry, Forest, Kind, Layout, NodeId, Slot, SlotTabl
 
 use crate::args::Run;
 use crate::tell::Value::{Ids, None, Number, Refused, Text, Word};
-use crate::tell::{Field, Stop, Tell};
+use crate::tell::{table, Field, Stop, Tell};
 
 pub fn roots(run: &Run, bytes: &[u8], tell: &mut Tell<'_>) -> Result<(), Stop> {
     let forest = run.scan(bytes)?;
-    let mut table = vec![0; forest.layout().node_count];
+    let mut table = table(forest.layout().node_count)?;
     let slots = forest.slots(&mut table)?;
     tell.records(&[], "roots", |rows| {
         for (i, root) in forest.roots().enumerate() {
@@ -35,7 +35,7 @@ pub fn nodes(run: &Run, bytes: &[u8], tell: &mut Tell<'_>) -> Result<(), Stop> {
     if from < to {
         forest.entry(NodeId(to - 1))?; // INDEX where there are not so many
     }
-    let mut table = vec![0; count];
+    let mut table = table(count)?;
     let slots = forest.slots(&mut table)?;
     tell.records(&[], "nodes", |rows| {
         for node in forest.nodes().skip(from as usize).take(to.saturating_sub(from) as usize) {

@@ -12,7 +12,17 @@ use crate::json::Json;
 /// Why nothing more is told of a file.
 pub enum Stop {
     Refused(Refusal),
+    /// It could not be read, or there is no memory for its tables.
+    Unread(String),
     Output(io::Error),
+}
+
+/// A table of zeros to lend: of so many places as a file asks for, so there may be no memory for it.
+pub fn table<N: Clone + Default>(places: usize) -> Result<Vec<N>, Stop> {
+    let mut table = Vec::new();
+    table.try_reserve_exact(places).map_err(|_| Stop::Unread(format!("no memory for a table of {places} places")))?;
+    table.resize(places, N::default());
+    Ok(table)
 }
 
 impl From<Refusal> for Stop {
@@ -57,11 +67,20 @@ impl<'o> Tell<'o> {
         Tell { name, json, out, refused: false }
     }
 
-    /// Says on standard error why something is refused, after what was told before.
+    /// Says on standard error why something is refused, after what was told before; that it could not be told changes nothing here.
     pub fn why(&mut self, why: &dyn Display) -> io::Result<()> {
         self.refused = true;
-        self.out.flush()?;
+        let flushed = self.out.flush();
         complain(&format_args!("{}: {why}", self.name));
+        flushed
+    }
+
+    /// The file could not be read: on standard error why, and in JSON a line too, so that each file has one.
+    pub fn unread(&mut self, why: &str) -> io::Result<()> {
+        self.why(&why)?;
+        if self.json {
+            self.record(&[("error", "", Value::Text(why))])?;
+        }
         Ok(())
     }
 
