@@ -182,5 +182,18 @@ echo "small program: $(tail -n 1 "$work/program.log")"
 step script sh tests/mast_layout/script.sh
 echo "its script: $(tail -n 1 "$work/script.log")"
 
+# the small program as one word, started as its script does
+kit=$(rt doc)
+tools=${kit%/docs/*}/on/$(uname -m)/toolchain
+emulator=$tools/bin/qemu-x86_64
+[ -x "$emulator" ] || emulator=
+cat >"$work/small" <<SMALL
+#!/bin/sh
+exec $emulator "$tools/lib/ld-linux-x86-64.so.2" --library-path "$tools/lib" "$root/target/bin/mast_layout" "\$@"
+SMALL
+chmod +x "$work/small"
+step mast_run python3 tests/mast/run.py "$mast" "$work/small"
+echo "mast: $(grep ' took ' "$work/mast_run.log"); $(tail -n 1 "$work/mast_run.log")"
+
 step beside_rust cargo run --release --offline --manifest-path tests/beside_rust/Cargo.toml
 echo "beside the published Rust: $(tail -n 1 "$work/beside_rust.log")"

@@ -62,8 +62,9 @@ fn of_command(command: &'static Command, words: &[OsString]) -> Result<Asked, St
     let mut words = words.iter();
     let mut ended = false; // by --
     while let Some(word) = words.next() {
-        let option = word.to_str().filter(|text| !ended && text.len() > 1 && text.starts_with('-'));
-        match option {
+        let is_option = !ended && word != "-" && word.as_encoded_bytes().starts_with(b"-");
+        let option = is_option.then(|| word.to_string_lossy());
+        match option.as_deref() {
             None => run.files.push(word.clone()),
             Some("--") => ended = true,
             Some(text) => {

@@ -32,7 +32,8 @@ pub fn check(run: &Run, bytes: &[u8], tell: &mut Tell<'_>) -> Result<(), Stop> {
             Ok(map) if map.trailing() > 0 => {
                 let (bytes, at) = (("bytes", "found", Number(map.trailing())), ("at", "at", Number(map.end().0)));
                 rows.row(&[("check", "", Text("trailing")), ("ok", "", Truth(false)), bytes, at])?;
-                Ok(rows.why(&format_args!("{} bytes follow the map, the first at byte {}", map.trailing(), map.end()))?)
+                let follow = if map.trailing() == 1 { "byte follows" } else { "bytes follow" };
+                Ok(rows.why(&format_args!("{} {follow} the map, the first at byte {}", map.trailing(), map.end()))?)
             }
             Ok(_) => Ok(said("trailing", Ok(()))?),
             Err(_) => Ok(()),

@@ -30,7 +30,8 @@ pub static COMMANDS: [Command; 6] = [
         name: "roots",
         operand: "",
         text: "A line for each root: its number, its place, its node, that node's kind,\n\
-               its digest and where that lies.",
+               its digest and where that lies: none where the file has no hashes. A root\n\
+               that names no node is refused in its line, and so is a digest that is none.",
         run: nodes::roots,
     },
     Command {
@@ -38,7 +39,8 @@ pub static COMMANDS: [Command; 6] = [
         operand: "",
         text: "A line for each node: its number, its place, its kind with its children (of\n\
                a Block the place of its operations in the block data), its slot, which is\n\
-               its row among the digests of its kind, its digest and where that lies.",
+               its row among the digests of its kind, its digest and where that lies, as\n\
+               for roots.",
         run: nodes::nodes,
     },
     Command {
@@ -88,18 +90,24 @@ pub static CHOICES: [Choice; 7] = [
         "WORDS",
         "The format facts, with commas between them: the magic in 8 hexadecimal\n\
          digits, the version in 6, the hashless mask and the reserved mask in 2\n\
-         each, and the node maximum in decimal. Else the facts that stand in for\n\
-         the published ones, which are not at hand: STAND_IN.",
+         each, and the node maximum in decimal. Without it they are\n\
+         STAND_IN, which stands in for the published facts:\n\
+         name your own for files of the Miden VM.",
     ),
     choice("--no-hashless", "", "A file without node hashes is refused (HASHLESS)."),
-    choice("--bound", "BYTES", "A count above BYTES divided by the size of what it counts is refused\n(BUDGET)."),
+    choice(
+        "--bound",
+        "BYTES",
+        "A count above BYTES divided by the size of what it counts is refused\n\
+         (BUDGET); block data, entries and digests together count as one.",
+    ),
     Choice {
         of: "nodes",
         ..choice(
             "--range",
             "A..B",
             "The nodes from A on and before B alone. A.. is to the last and ..B from the\n\
-             first; where the node before B is not there it is refused (INDEX).",
+             first. Where a node before B is not there, it is refused (INDEX).",
         )
     },
     choice(
@@ -109,7 +117,10 @@ pub static CHOICES: [Choice; 7] = [
          or `error` where nothing else can be said of it. Keys, digests and values\n\
          are texts, all other numbers are numbers.",
     ),
-    Choice { short: "-h", ..choice("--help", "", "This text; after a command, that command's.") },
+    Choice {
+        short: "-h",
+        ..choice("--help", "", "This text; after a command, that command's. So do `mast help` and\n`mast help COMMAND`.")
+    },
     Choice { short: "-V", ..choice("--version", "", "The version of this program and of the proved archive in it.") },
 ];
 
@@ -165,8 +176,9 @@ pub fn whole() -> String {
         "mast - what compiled program files hold, by a proved reader\n\n\
          USAGE\n  mast COMMAND [OPTION]... FILE...\n\n  \
          A FILE is a serialized MAST forest of the Miden VM, of any size; - is\n  \
-         standard input. Options may stand before and after files; -- ends them. With\n  \
-         several files a line with its name goes before each.\n\nCOMMANDS\n",
+         standard input, which can be named once. Options stand after the command,\n  \
+         before or after files; -- ends them. With several files a line with its name\n  \
+         goes before each.\n\nCOMMANDS\n",
     );
     for command in &COMMANDS {
         said(&mut page, &command.term(), command.text);

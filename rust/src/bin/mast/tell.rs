@@ -60,16 +60,22 @@ pub struct Tell<'o> {
     pub out: &'o mut dyn Write,
     /// Whether anything of this file was refused.
     pub refused: bool,
+    /// In the midst of a line of JSON, what is to be said after it.
+    waiting: Option<Vec<String>>,
 }
 
 impl<'o> Tell<'o> {
     pub fn new(name: &'o str, json: bool, out: &'o mut dyn Write) -> Tell<'o> {
-        Tell { name, json, out, refused: false }
+        Tell { name, json, out, refused: false, waiting: None }
     }
 
     /// Says on standard error why something is refused, after what was told before; that it could not be told changes nothing here.
     pub fn why(&mut self, why: &dyn Display) -> io::Result<()> {
         self.refused = true;
+        if let Some(waiting) = &mut self.waiting {
+            waiting.push(why.to_string());
+            return Ok(());
+        }
         let flushed = self.out.flush();
         complain(&format_args!("{}: {why}", self.name));
         flushed
@@ -113,12 +119,17 @@ impl<'o> Tell<'o> {
                 write!(self.out, ",")?;
                 member(&mut Json(self.out), field)?;
             }
-            if !list.is_empty() {
-                write!(self.out, ",\"{list}\":[")?;
-                each(&mut Rows { tell: self, first: true })?;
-                write!(self.out, "]")?;
+            if list.is_empty() {
+                return Ok(writeln!(self.out, "}}")?);
             }
-            return Ok(writeln!(self.out, "}}")?);
+            write!(self.out, ",\"{list}\":[")?;
+            self.waiting = Some(Vec::new());
+            let listed = each(&mut Rows { tell: self, first: true });
+            let ended = writeln!(self.out, "]}}");
+            let waiting = self.waiting.take().unwrap_or_default();
+            waiting.iter().try_for_each(|why| self.why(why))?;
+            listed?;
+            return Ok(ended?);
         }
         if !fields.is_empty() {
             line(self.out, fields)?;
