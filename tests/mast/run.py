@@ -305,7 +305,8 @@ def try_streams(samples):
         process.stdout.close()
         got = start, process.stderr.read(), process.wait()  # not all was told, so it is no success; the reader knows, so there is no complaint
         hold(f"mast {' '.join(words)} long.mast, its output closed early", got == (wanted, b"", 2), (wanted, b"", 2), got)
-    for line, reason in (("layout bad-tag.mast", "refused 9 "), ("check root-beyond.mast", "refused 13 "), ("layout p10.mast missing", "")):
+    for line, reason in (("layout bad-tag.mast", "refused 9 "), ("check root-beyond.mast", "refused 13 "), ("roots --json root-beyond.mast", "refused 13 "),
+                         ("layout p10.mast missing", "")):
         reader, writer = os.pipe()
         os.close(reader)
         got = run(line.split(), stdout=writer)

@@ -69,7 +69,7 @@ impl<'o> Tell<'o> {
         Tell { name, json, out, refused: false, waiting: None }
     }
 
-    /// Says on standard error why something is refused, after what was told before; that it could not be told changes nothing here.
+    /// Says on standard error why something is refused, after what was told before; it is said where standard output fails, too.
     pub fn why(&mut self, why: &dyn Display) -> io::Result<()> {
         self.refused = true;
         if let Some(waiting) = &mut self.waiting {
@@ -112,29 +112,28 @@ impl<'o> Tell<'o> {
         list: &str,
         each: impl FnOnce(&mut Rows<'_, 'o>) -> Result<(), E>,
     ) -> Result<(), E> {
-        if self.json {
-            write!(self.out, "{{\"file\":")?;
-            Json(self.out).text(self.name)?;
-            for field in fields {
-                write!(self.out, ",")?;
-                member(&mut Json(self.out), field)?;
+        if !self.json {
+            if !fields.is_empty() {
+                line(self.out, fields)?;
             }
-            if list.is_empty() {
-                return Ok(writeln!(self.out, "}}")?);
-            }
-            write!(self.out, ",\"{list}\":[")?;
-            self.waiting = Some(Vec::new());
-            let listed = each(&mut Rows { tell: self, first: true });
-            let ended = writeln!(self.out, "]}}");
-            let waiting = self.waiting.take().unwrap_or_default();
-            waiting.iter().try_for_each(|why| self.why(why))?;
-            listed?;
-            return Ok(ended?);
+            return each(&mut Rows { tell: self, first: true });
         }
-        if !fields.is_empty() {
-            line(self.out, fields)?;
+        write!(self.out, "{{\"file\":")?;
+        Json(self.out).text(self.name)?;
+        for field in fields {
+            write!(self.out, ",")?;
+            member(&mut Json(self.out), field)?;
         }
-        each(&mut Rows { tell: self, first: true })
+        if list.is_empty() {
+            return Ok(writeln!(self.out, "}}")?);
+        }
+        write!(self.out, ",\"{list}\":[")?;
+        self.waiting = Some(Vec::new());
+        let told = each(&mut Rows { tell: self, first: true }).and_then(|()| Ok(writeln!(self.out, "]}}")?));
+        // what waited is said however the list ended
+        let waiting = self.waiting.take().unwrap_or_default();
+        let said = waiting.iter().map(|why| self.why(why)).fold(Ok(()), Result::and);
+        told.and(said.map_err(E::from))
     }
 }
 
