@@ -60,7 +60,10 @@ fn named(folder: &Path) -> PathBuf {
     let archive = folder.join("libvekalumist.a");
     match fs::canonicalize(folder) {
         Ok(folder) if archive.is_file() => {
-            println!("cargo::rerun-if-changed={}", folder.display());
+            // the two files and not the folder, which may be one with many others
+            for file in ["libvekalumist.a", "libvekalumist.version"] {
+                println!("cargo::rerun-if-changed={}", folder.join(file).display());
+            }
             folder
         }
         _ => fail(&format!("VEKALUMIST_ARCHIVE: there is no {}", archive.display())),
