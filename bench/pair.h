@@ -1,4 +1,5 @@
-// What both builds are given, and what a build can do with it. pair.c makes the input and takes the times, side.c is compiled for each build.
+// What both builds are given, and what a build can do with it. pair.c makes the input and takes the times, side.c is compiled for each build,
+// rust.c is the side of the published Rust's shims.
 #include <stddef.h>
 #include <stdint.h>
 
@@ -16,12 +17,27 @@ extern int keys_rise;
 extern uint64_t layout[12], offsets[MOST];
 extern uint32_t table[MOST], indices[MOST];
 
+// counts end to end with some bytes behind the last, and their places in the order in which they are asked for
+#define BEHIND 8
+extern uint8_t counts[9 * MOST + BEHIND];
+extern uint64_t places[MOST];
+extern size_t counts_held, counts_len;
+
 // ends the run on any refusal
 void must(uint64_t refusal);
 
-struct side {
-    void (*scan)(void), (*slots)(void), (*entry)(void), (*digest)(void), (*children)(void), (*order)(void), (*strict)(void), (*walk)(void),
-        (*lookup)(void), (*write)(void);
+// The answer for one count, with all the memory that was lent for it: where nothing was stored the mark is left.
+#define MARK 0xa55a3cc369960ff0u
+struct counted {
+    uint64_t refusal, value, len, next, place;
 };
 
-extern const struct side older, newer;
+// call: an exported function that does nothing, as often as there are counts; a build before version 0.2.0 has none
+struct side {
+    void (*scan)(void), (*slots)(void), (*entry)(void), (*digest)(void), (*children)(void), (*order)(void), (*strict)(void), (*walk)(void),
+        (*lookup)(void), (*write)(void), (*count)(void), (*call)(void);
+    struct counted (*count_at)(const uint8_t *s, size_t len, size_t at);
+};
+
+// rust: the published Rust's shims, which have the counts alone, or nothing
+extern const struct side older, newer, rust;

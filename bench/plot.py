@@ -1,4 +1,4 @@
-"""plot.py CSV SVG: the cost of a node or entry over the size, both scales logarithmic. One field an operation, one line a side."""
+"""plot.py CSV SVG: the cost of a node, entry or count over the size, both scales logarithmic. One field an operation, one line a side."""
 import csv
 import math
 import sys
@@ -80,7 +80,7 @@ class Field:
 
 
 def legend(width):
-    yield text(LEFT, 24, "Cost of one node or map entry, in ns, over the number of nodes or entries", "start", 15)
+    yield text(LEFT, 24, "Cost of one node, map entry or count, in ns, over their number", "start", 15)
     x = LEFT
     for _, name, colour, dashes in reversed(SIDES):
         yield f'<line x1="{x}" y1="46" x2="{x + 34}" y2="46" stroke="{colour}" stroke-width="2" stroke-dasharray="{dashes}"/>'

@@ -9,6 +9,7 @@ work=$top/target/bench
 mkdir -p "$work"
 VEKALUMIST_PUBLISHED=${1:-${VEKALUMIST_PUBLISHED:-}}
 [ -n "$VEKALUMIST_PUBLISHED" ] || { echo "usage: run.sh FOLDER of the published files" >&2; exit 2; }
+VEKALUMIST_PUBLISHED=$(cd "$VEKALUMIST_PUBLISHED" && pwd)
 if [ -z "${VEKALUMIST_ARCHIVE:-}" ]; then
     VEKALUMIST_ARCHIVE=$work/archive
     sh "$top/tools/archive.sh" "$top" "$VEKALUMIST_ARCHIVE"

@@ -14,6 +14,7 @@ uint64_t vk_order(const uint8_t *, size_t, const uint64_t *, size_t, uint64_t *,
 uint64_t vk_strict(const uint8_t *, size_t, const uint64_t *, size_t, uint64_t *, size_t);
 uint64_t vk_walk(const uint8_t *, size_t, size_t, uint64_t *, size_t, uint64_t *, size_t);
 uint64_t vk_lookup(const uint8_t *, size_t, const uint64_t *, size_t, size_t, const uint64_t *, size_t, uint64_t *, size_t);
+uint64_t vk_read_count(const uint8_t *, size_t, size_t, uint64_t *, size_t);
 uint64_t vk_write(const uint64_t *, size_t, uint8_t, const uint32_t *, size_t, const uint8_t *, size_t, const uint64_t *, size_t,
                   const uint8_t *, size_t, const uint8_t *, size_t, const uint64_t *, size_t, const uint64_t *, size_t, const uint64_t *,
                   size_t, uint8_t *, size_t, uint64_t *, size_t);
@@ -58,6 +59,19 @@ static void write(void) {
                   4 * entries, lengths, entries, values, held, out, sizeof out, row, 12));
     out_len = row[0];
 }
+
+static void count(void) {
+    for (size_t i = 0; i < counts_held; i++) must(vk_read_count(counts, counts_len, places[i], row, 12));
+}
+
+// A refusal's place comes as the row's first number, and nothing is stored behind an answer's three.
+static struct counted count_at(const uint8_t *s, size_t len, size_t at) {
+    uint64_t got[4] = {MARK, MARK, MARK, MARK}, refusal = vk_read_count(s, len, at, got, 4);
+    struct counted answer = {refusal, got[refusal ? 3 : 0], got[1], got[2], got[refusal ? 0 : 3]};
+    return answer;
+}
+
+#define call 0
 
 #else
 
@@ -122,6 +136,22 @@ static void write(void) {
     out_len = size;
 }
 
+static void count(void) {
+    static veka_count_t got;
+    for (size_t i = 0; i < counts_held; i++) must(veka_read_count(counts, counts_len, places[i], &got, &place));
+}
+
+static void call(void) {
+    for (size_t i = 0; i < counts_held; i++) must(!veka_version());
+}
+
+static struct counted count_at(const uint8_t *s, size_t len, size_t at) {
+    veka_count_t got = {MARK, MARK, MARK};
+    uint64_t where = MARK, refusal = veka_read_count(s, len, at, &got, &where);
+    struct counted answer = {refusal, got.value, got.len, got.next, where};
+    return answer;
+}
+
 #endif
 
-const struct side SIDE = {scan, slots, entry, digest, children, order, strict, walk, lookup, write};
+const struct side SIDE = {scan, slots, entry, digest, children, order, strict, walk, lookup, write, count, call, count_at};

@@ -15,6 +15,7 @@ u64 veka_raw_entry(const u8 *s, u64 len, const u64 *layout, u64 index, u64 *entr
 u64 veka_raw_digest_with_table(const u8 *s, u64 len, const u64 *layout, u64 index, const u32 *table, u64 table_len, u64 *digest, u64 *place);
 u64 veka_raw_walk(const u8 *s, u64 len, u64 at, u64 *keys, u64 keys_len, u64 *walked, u64 *place);
 u64 veka_raw_lookup(const u8 *s, u64 len, const u64 *keys, u64 keys_len, u64 n, const u64 *key, u64 *looked, u64 *place);
+u64 veka_raw_read_count(const u8 *s, u64 len, u64 at, u64 *count, u64 *place);
 u64 veka_raw_write(const u8 *marks, u64 max_nodes, u8 flags, const u32 *roots, u64 roots_len, const u8 *blocks, u64 blocks_len,
                    const u64 *words, u64 words_len, const u8 *external, u64 external_len, const u8 *hashes, u64 hashes_len, const u64 *keys,
                    u64 keys_len, const u64 *lengths, u64 lengths_len, const u64 *values, u64 values_len, const u64 *order, u64 order_len,
@@ -91,6 +92,37 @@ static void make(u64 n, u64 m, int way) {
     scan();
 }
 
+// Stores a count in so many bytes from a place of the file on, and gives the place after it. Of a number that is too large the upper bits
+// are lost.
+static u64 put_count(u64 at, u64 len, u64 v) {
+    u64 raw = len == 9 ? v : (2 * v + 1) << (len - 1);
+    if (len == 9) file[at++] = 0;
+    for (u64 i = 0; i < (len == 9 ? 8 : len); i++) file[at++] = (u8)(raw >> 8 * i);
+    return at;
+}
+
+// The map once more with each length in 1 to 9 bytes: the writer has the shortest forms alone. All values are 0.
+static void pad(u64 m) {
+    u64 at = put_count(layout[11], 9, m);
+    for (u64 i = 0; i < m; i++) {
+        for (u64 k = 0; k < 32; k++) file[at++] = (u8)(keys[4 * i + k / 8] >> 8 * (k % 8));
+        at = put_count(at, 1 + number() % 9, lengths[i]);
+        for (u64 k = 0; k < 8 * lengths[i]; k++) file[at++] = 0;
+    }
+    file_len = at;
+}
+
+// n counts of so many bytes end to end in place of a file, and bytes behind the last.
+static void make_counts(u64 n, u64 len) {
+    u64 at = 0;
+    for (u64 i = 0; i < n; i++) at = put_count(at, len, number());
+    file_len = at + 8;
+}
+
+static void count(u64 n, u64 len) {
+    for (u64 i = 0; i < n; i++) must(veka_raw_read_count(file, file_len, len * i, row, &place));
+}
+
 static void entry(u64 n) {
     for (u64 i = 0; i < n; i++) must(veka_raw_entry(file, file_len, layout, i, row, &place));
 }
@@ -132,8 +164,12 @@ static u64 parse(const char *s) {
 static void run(const char *name, u64 n, u64 times) {
     int way = is(name, "walk-falling") ? 2
               : is(name, "walk-shuffled") || is(name, "write-shuffled") ? 3
-                                                                        : is(name, "walk-rising") || is(name, "lookup") || is(name, "write-map");
-    make(way ? 16 : n, way ? n : 0, way);
+                                                                        : is(name, "walk-rising") || is(name, "walk-padded") ||
+                                                                              is(name, "lookup") || is(name, "write-map");
+    u64 len = *name == 'c' ? parse(name + 6) : 0; // of count-1 to count-9
+    if (len) make_counts(n, len);
+    else make(way ? 16 : n, way ? n : 0, way);
+    if (is(name, "walk-padded")) pad(n);
     if (is(name, "digest")) slots(n);
     if (is(name, "lookup")) walk(n);
     while (times--) {
@@ -143,6 +179,7 @@ static void run(const char *name, u64 n, u64 times) {
         else if (is(name, "entry")) entry(n);
         else if (is(name, "digest")) digest(n);
         else if (is(name, "lookup")) lookup(n);
+        else if (len) count(n, len);
         else if (is(name, "write")) write_file(n, 0);
         else if (is(name, "write-map") || is(name, "write-shuffled")) write_file(16, n);
         else walk(n);

@@ -1,5 +1,5 @@
 #!/bin/sh
-# x86.sh: instructions per node or entry of rt's own x86-64 archive. On x86-64 valgrind counts those between the call of an exported
+# x86.sh: instructions per node, entry or count of rt's own x86-64 archive. On x86-64 valgrind counts those between the call of an exported
 # function and its return. Elsewhere an emulator has no times, but it can count: the kit's qemu-x86_64 has no plugins, so it logs every
 # instruction that it executes of the archive's code (one to a block, blocks not chained) and the lines are counted. The driver's own code
 # is not counted, but for the plain read. An operation is run once and twice, and the difference is one run; that of two sizes, divided
@@ -49,7 +49,8 @@ once() {
 
 low=512 high=1024
 printf '%-14s %10s %12s %12s\n' operation "per node" "at $low" "at $high"
-for operation in plain scan slots entry digest walk-rising walk-falling walk-shuffled lookup write write-map write-shuffled; do
+for operation in plain scan slots entry digest walk-rising walk-padded walk-falling walk-shuffled lookup write write-map write-shuffled \
+    count-1 count-2 count-3 count-4 count-5 count-6 count-7 count-8 count-9; do
     if a=$(once $operation $low) && b=$(once $operation $high); then
         awk -v name=$operation -v a="$a" -v b="$b" -v low=$low -v high=$high \
             'BEGIN { printf "%-14s %10.2f %12d %12d\n", name, (b - a) / (high - low), a, b }'

@@ -1,10 +1,10 @@
 #!/bin/sh
 # wrapper.sh PUBLISHED: all that stands around the proved archive, in one command. The declarations in three languages; the Rust crate: layout,
 # clippy, tests, documentation with its tests, without the standard library, its build script, README's example; the C header (null with length
-# 0 in every slice, swapped arguments); the examples on every sample, in C as C11 and as C++17; the program mast on samples, made-up files and one
-# of 100 MB, and its man page; the small program and its script on whole files; and the comparison with the published Rust, whose files are in
-# the folder PUBLISHED. The archive is proved and built first, or taken from the folder in VEKALUMIST_ARCHIVE. One line for each step; status 0
-# only if all agree. What the steps say themselves is kept in target/wrapper/.
+# 0 in every slice, nothing read outside one, swapped arguments); the examples on every sample, in C as C11 and as C++17; the program mast on
+# samples, made-up files and one of 100 MB, and its man page; the small program and its script on whole files; and the comparison with the
+# published Rust, whose files are in the folder PUBLISHED. The archive is proved and built first, or taken from the folder in
+# VEKALUMIST_ARCHIVE. One line for each step; status 0 only if all agree. What the steps say themselves is kept in target/wrapper/.
 set -eu
 published=${1:-${VEKALUMIST_PUBLISHED:-}}
 if [ $# -gt 1 ] || [ ! -d "$published" ]; then
@@ -98,6 +98,11 @@ compiled null tests/header/null.c
 for as in c cpp; do
     step "null_${as}_run" "$work/null_$as"
     echo "null with length 0, as $as: $(tail -n 1 "$work/null_${as}_run.log")"
+done
+compiled edges tests/header/edges.c
+for as in c cpp; do
+    step "edges_${as}_run" "$work/edges_$as"
+    echo "counts, nothing outside a slice, as $as: $(tail -n 1 "$work/edges_${as}_run.log")"
 done
 step swapped sh tests/header/swapped.sh
 echo "swapped arguments: $(tail -n 1 "$work/swapped.log")"

@@ -6,7 +6,7 @@ use vekalumist::{Entry, Facts, Layout, NodeId};
 
 use crate::measure::Side;
 
-pub use direct::{Forest, Map, Scanned};
+pub use direct::{Forest, Map, Scanned, read_count};
 
 pub fn set_facts(facts: &Facts) {
     let Facts { magic, version, hashless, reserved, max_nodes } = *facts;

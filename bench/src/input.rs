@@ -37,18 +37,21 @@ impl Numbers {
     }
 }
 
+/// A count in so many bytes. Of a number that is too large the upper bits are lost.
+pub fn push_form(len: u32, value: u64, out: &mut Vec<u8>) {
+    if len == 9 {
+        out.push(0);
+        out.extend_from_slice(&value.to_le_bytes());
+    } else {
+        let raw = ((value as u128) << len) as u64 | 1 << (len - 1);
+        out.extend_from_slice(&raw.to_le_bytes()[..len as usize]);
+    }
+}
+
 /// A count in its shortest form.
 fn push_count(value: u64, out: &mut Vec<u8>) {
-    match (1..=8u32).find(|len| value >> (7 * len) == 0) {
-        Some(len) => {
-            let raw = ((value as u128) << len) as u64 | 1 << (len - 1);
-            out.extend_from_slice(&raw.to_le_bytes()[..len as usize]);
-        }
-        None => {
-            out.push(0);
-            out.extend_from_slice(&value.to_le_bytes());
-        }
-    }
+    let len = (1..=8u32).find(|len| value >> (7 * len) == 0).unwrap_or(9);
+    push_form(len, value, out);
 }
 
 /// The parts of a file, as the writer takes them.

@@ -2,6 +2,7 @@
 //! process. `bench CSV [SIZE ..] [NAME ..]`: prints the table and stores it; with names only the
 //! operations whose name starts with one of them.
 mod beside;
+mod counts;
 mod files;
 mod input;
 mod maps;
@@ -19,12 +20,13 @@ fn main() {
     let named: Vec<usize> = numbers.iter().flat_map(|n| n.parse()).collect();
     let sizes = if named.is_empty() { &SIZES[..] } else { &named };
     beside::set_facts(&input::FACTS);
-    println!("ns for one node or entry, best of {} rounds in turn", measure::ROUNDS);
+    println!("ns for one node, entry or count, best of {} rounds in turn", measure::ROUNDS);
     let mut table = table::Table::new(names);
     for &n in sizes {
         nodes::rows(&mut table, n);
         maps::rows(&mut table, n);
         files::rows(&mut table, n);
+        counts::rows(&mut table, n);
     }
     table.store(&csv).expect("the CSV file");
 }

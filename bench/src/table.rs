@@ -5,7 +5,7 @@ use crate::measure::{Side, best};
 
 pub struct Row {
     name: &'static str,
-    /// Nodes, or entries of the map.
+    /// Nodes, entries of the map, or counts.
     n: usize,
     ours: f64,
     rust: Option<f64>,
@@ -23,7 +23,7 @@ impl Row {
         });
         let over = self.ours / self.plain;
         format!(
-            "{:<16} {:>8} {:>9.3} {:>9} {:>9.3} {:>10} {:>11.2}",
+            "{:<17} {:>8} {:>9.3} {:>9} {:>9.3} {:>10} {:>11.2}",
             self.name, self.n, self.ours, rust[0], self.plain, rust[1], over
         )
     }
@@ -43,7 +43,7 @@ pub struct Table {
 impl Table {
     pub fn new(wanted: Vec<String>) -> Self {
         println!(
-            "{:<16} {:>8} {:>9} {:>9} {:>9} {:>10} {:>11}",
+            "{:<17} {:>8} {:>9} {:>9} {:>9} {:>10} {:>11}",
             "operation", "size", "ours", "Rust", "plain", "Rust/ours", "ours/plain"
         );
         Self { rows: Vec::new(), wanted }
@@ -53,7 +53,7 @@ impl Table {
         self.wanted.is_empty() || self.wanted.iter().any(|name| row.name.starts_with(&name[..]))
     }
 
-    /// Ours, the published Rust, the plain read; each in ns for one node or entry.
+    /// Ours, the published Rust, the plain read; each in ns for one node, entry or count.
     pub fn add(&mut self, row: Row, mut sides: [Side; 3]) {
         if !self.wants(&row) {
             return;

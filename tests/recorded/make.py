@@ -875,6 +875,14 @@ WORDS = "veka_digest, one word"
 TWO_WORDS = "veka_walk, two words", "veka_lookup, two words"
 
 
+def counts_among_bytes():
+    """Every length with 6 to 11 bytes left: eight are read together where they are left, and the longest form has nine."""
+    for size in range(1, 10):
+        for left in range(6, 12):
+            at = rng.randrange(4)
+            case("veka_read_count", at, s=(some(at) + form(number() % 2**min(7 * size, 64), size) + some(10))[:at + left])
+
+
 def words():
     """A word anywhere, as the digest of the one node, which is external; and two words side by side."""
     def word(at, s):
@@ -2200,8 +2208,8 @@ def read_again(text):
     return sections
 
 
-MAKERS = [bench, numbers, counts, words, entries, scan_bench_files, scan_headers, scan_given_numbers, scan_sizes, scan_sections,
-          scan_entries, scan_many_entries, scan_random_files, rows_by_number, readers_by_index, slots, digests, node_checks,
+MAKERS = [bench, numbers, counts, counts_among_bytes, words, entries, scan_bench_files, scan_headers, scan_given_numbers, scan_sizes,
+          scan_sections, scan_entries, scan_many_entries, scan_random_files, rows_by_number, readers_by_index, slots, digests, node_checks,
           maps, made_maps, largest_maps, map_places, rewrites, written_parts, claimed_orders, headers]
 
 

@@ -8,6 +8,10 @@ use mathlib.Core.List.{List}
 use Prim.Native.Nat.{ℕ}
 use denote.Ref.{now}
 use lib.ListN.{length}
+use Rattle.wire.specs.Counts.{countOutcome}
+use Rattle.wire.specs.Shown.{shownCount}
+use Rattle.wire.specs.declared.count.CountRead.{CountRead}
+use Rattle.wire.proofs.count.read_count.Reads as read-count
 use Rattle.info.specs.Entry.{decodeOutcome, encodeOutcome}
 use Rattle.info.specs.Shown.{shownDecoded, shownEncoded}
 use Rattle.info.specs.declared.MastNodeEntry.{MastNodeEntry}
@@ -65,6 +69,14 @@ use Rattle.writer.specs.Shown.{shownWrite, lent}
 use Rattle.writer.specs.declared.file.ForestWrite.{ForestWrite}
 use Rattle.writer.proofs.file.write_forest.Reads as write-forest
 use Rattle.writer.proofs.file.write_forest_hinted.Reads as write-forest-hinted
+
+-- ---- counts
+
+abbrev pub ReadsCount : List ℕ → ℕ → CountRead → Type 0
+ReadsCount s at r = shownCount r ≡ countOutcome s at
+
+pub reads-count : (κs : _) (a : _) (r : _) (e : _) → read-count.Post κs a r e → ReadsCount (now (a .0)) (a .1 .0 .0) r
+reads-count κs a r e p = p
 
 -- ---- entries
 

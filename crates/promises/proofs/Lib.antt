@@ -23,3 +23,4 @@ pub mod Advice
 pub mod Demand2
 pub mod Demand3
 pub mod Examples
+pub mod Request4

@@ -1,10 +1,13 @@
--- The three demands, each a theorem over every call of the functions that it is about. What a call may answer has a name in Calls (`Scans`, `Walks`,
--- `Writes` and the others); what is demanded is spelled out in the pages of the crates (`OfWire` and the others), in Demand2 and in Demand3.
+-- The three demands, each a theorem over every call of the functions that it is about, and the requests that have landed. What a call may answer has
+-- a name in Calls (`Scans`, `Walks`, `Writes` and the others); what is demanded is spelled out in the pages of the crates (`OfWire` and the others), in
+-- Demand2 and in Demand3, and what a request asks for on a page of its own.
 -- Assumes nothing.
 use mathlib.Core.Bool.{Bool}
 use mathlib.Core.List.{List, _++_}
 use Prim.Native.Nat.{ℕ, _≤_}
 use lib.ListN.{length}
+use Rattle.wire.specs.Le.{Bytes}
+use Rattle.wire.specs.declared.count.CountRead.{CountRead}
 use Rattle.layout.specs.declared.facts.FormatFacts.{FormatFacts}
 use Rattle.layout.specs.declared.facts.Bound.{Bound}
 use Rattle.layout.specs.declared.forest.ForestLayout.{ForestLayout}
@@ -14,7 +17,7 @@ use Rattle.advice.specs.declared.walk.MapWalk.{MapWalk}
 use Rattle.writer.specs.Parts.{Parts, partsShown}
 use Rattle.writer.specs.declared.file.ForestWrite.{ForestWrite}
 use Rattle.renderings.specs.Rendering.{Lengths, renderedFile, Lengthened, Valid}
-use Rattle.promises.proofs.Calls.{Scans, Walks, Writes}
+use Rattle.promises.proofs.Calls.{ReadsCount, Scans, Walks, Writes}
 use Rattle.promises.proofs.OfWire.{Wire, wire}
 use Rattle.promises.proofs.OfInfo.{Info, info}
 use Rattle.promises.proofs.OfRows.{Rows, rows}
@@ -32,6 +35,7 @@ use Rattle.promises.proofs.OfWhole.{Whole, whole}
 use Rattle.promises.proofs.OfPage.{Page, page}
 use Rattle.promises.proofs.Demand2.{Demand2File, file-demanded, Demand2Map, map-demanded, Demand2Entries, entries-demanded, Demand2Checks, checks-demanded, MustTake, rendering-demanded}
 use Rattle.promises.proofs.Demand3.{Accepts, Demand3, shortest-demanded}
+use Rattle.promises.proofs.Request4.{Request4, counts-together}
 
 -- 1. Each public function answers whatever it is given: that it does is its own proof, and here it is seen that it asks nothing of its caller, that
 -- one answer, or one refusal with its number and place, is allowed, and what a refusal leaves in lent memory.
@@ -63,3 +67,7 @@ demand-2-exists = rendering-demanded
 pub demand-3 : (f : FormatFacts) (s : List ℕ) (places entries e : ℕ) → Accepts f places s entries e
     → (o₀ o : List ℕ) (r : ForestWrite) → e ≤ length o₀ → Writes f (partsShown f s) o₀ o r → Demand3 f s entries o r
 demand-3 = shortest-demanded
+
+-- Request 4. A count is read as it was; where eight bytes are left it is those eight as one word, shifted.
+pub request-4 : (s : List ℕ) (at : ℕ) (r : CountRead) → Bytes s → ReadsCount s at r → Request4 s at r
+request-4 = counts-together

@@ -9,7 +9,7 @@ use native.Mathlib.Nat.{lt-of-not-le, zero-add, add-sub-cancel-left}
 use borrow.Rule.Slice.PartMut.{putMid}
 use native.Mathlib.Omega.{arith}
 use borrow.Author.Tests.{ltb-true, ltb-false, le-leb, lt-leb, lt-ltb, le-ltb}
-use lib.Count.{trailing-le}
+use lib.Count.{trailing-le, trailing-of-zero}
 use lib.Dec.{ltb}
 use lib.ListN.{length, take, drop, getD, set, drop-of-length-le}
 use lib.Pow.{pow-add, pow-mono, shl-lt, shl-exact}
@@ -36,6 +36,10 @@ length-most b = omega (arith, trailing-le 8 b)
 pub length-least : (b : ℕ) → 1 ≤ countLength b
 unfolding countLength
 length-least b = omega arith
+
+pub length-of-zero : countLength 0 ≡ 9
+unfolding countLength
+length-of-zero = ap (λ (x : ℕ). x + 1) (trailing-of-zero 8)
 
 pub value-upto-8 : (s : List ℕ) (at len : ℕ) → len ≤ 8 → countValue s at len ≡ leAt s at len / 2 ^ len
 unfolding countValue

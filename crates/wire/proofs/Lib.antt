@@ -6,6 +6,7 @@ pub mod Le
 pub mod Numbers
 pub mod Counts
 pub mod Forms
+pub mod Together
 pub mod CountLaws
 pub mod Words
 pub mod Answers

@@ -15,13 +15,13 @@ use Rattle.wire.specs.Refusals.{SHORT}
 use Rattle.wire.specs.Le.{le, leAt, isShort, numberAt, numberOutcome}
 use Rattle.wire.proofs.Le.{le-next}
 
--- to compare with what is left is to compare the ends
-pub left-short : (l at n : ℕ) → at ≤ l → ltb (l - at) n ≡ ltb l (at + n)
-left-short l at n h = go (ltb l (at + n)) refl
+-- a place is past the last at which n bytes fit exactly if they end past the end
+pub past-last : (l at n : ℕ) → n ≤ l → ltb (l - n) at ≡ ltb l (at + n)
+past-last l at n h = go (ltb l (at + n)) refl
   where
-    go : (t : Bool) → ltb l (at + n) ≡ t → ltb (l - at) n ≡ ltb l (at + n)
-    go true e = rw e (lt-ltb (l - at) n (omega (arith, ltb-true l (at + n) e)))
-    go false e = rw e (le-ltb (l - at) n (omega (arith, ltb-false l (at + n) e)))
+    go : (t : Bool) → ltb l (at + n) ≡ t → ltb (l - n) at ≡ ltb l (at + n)
+    go true e = rw e (lt-ltb (l - n) at (omega (arith, ltb-true l (at + n) e)))
+    go false e = rw e (le-ltb (l - n) at (omega (arith, ltb-false l (at + n) e)))
 
 module _ (n : ℕ) (s : List ℕ) (at : ℕ) where
   pub all-there : isShort s at n ≡ false → at + n ≤ length s

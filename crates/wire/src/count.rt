@@ -1,4 +1,5 @@
 // Counts in the vint64 form: read at any place, written in the shortest form.
+use crate::number::eight_in;
 use crate::number::is_short;
 use crate::number::put_le;
 use crate::number::wide;
@@ -6,10 +7,12 @@ use crate::refusal::Refusal;
 use crate::units::ByteOffset;
 use crate::units::Cursor;
 ghost use mathlib.Core.Path.{_≡_};
-ghost use Prim.Native.Nat.{_+_, _≤_};
-ghost use lib.ListN.{length};
+ghost use mathlib.Core.Bool.{true};
+ghost use Prim.Native.Nat.{_+_, _^_, _≤_, _<_};
+ghost use lib.ListN.{length, getD};
 ghost use lib.Seq.{sets};
-ghost use Rattle.wire.specs.Le.{leAt};
+ghost use Rattle.wire.specs.Table.{accepted};
+ghost use Rattle.wire.specs.Le.{leAt, isShort};
 ghost use Rattle.wire.specs.Counts.{countOutcome, shortestLen, Form, countForm, writeOutcome, withCount};
 ghost use Rattle.wire.specs.Shown.{shownCount, shownWritten};
 
@@ -45,8 +48,20 @@ fn read_le(s: &[u8], at: usize, n: usize) -> u64
     acc
 }
 
-// The count at a place.
-pub fn read_count(s: &[u8], at: ByteOffset) -> CountRead
+// A count of len bytes at `from`, and the place after it.
+fn whole(from: usize, len: usize, value: u64) -> CountRead
+    requires { ⌜ from + len < 2 ^ 64 ⌝ }
+    ensures { λ r. ⌜ shownCount r ≡ accepted (record { value = record { value = value; len = len }; next = from + len }) ⌝ }
+{
+    let next = Cursor {
+        at: ByteOffset(from + len),
+    };
+    CountRead::Whole(Count { value, len }, next)
+}
+
+// The count at a place with fewer than eight bytes left, byte by byte.
+fn count_near_end(s: &[u8], at: ByteOffset) -> CountRead
+    requires { ⌜ isShort (now s) (at .0) 8 ≡ true ⌝ }
     ensures { λ r. ⌜ shownCount r ≡ countOutcome (now (s .entry)) (at .0) ⌝ }
 {
     let from = at.0;
@@ -54,18 +69,40 @@ pub fn read_count(s: &[u8], at: ByteOffset) -> CountRead
         return CountRead::Refused(Refusal::Short, at);
     }
     let len = u8::trailing_zeros(s[from]) as usize + 1;
-    if is_short(s, at, len) {
+    if s.len() - from < len {
         return CountRead::Refused(Refusal::Short, at);
     }
-    let next = Cursor {
-        at: ByteOffset(from + len),
-    };
-    if len <= 8 {
-        let value = read_le(s, from, len) >> len;
-        return CountRead::Whole(Count { value, len }, next);
+    whole(from, len, read_le(s, from, len) >> len)
+}
+
+// The count at a place with eight bytes left whose first is 0: the eight after it, if there is one more.
+fn longest_count(s: &[u8], at: ByteOffset) -> CountRead
+    requires { ⌜ (at .0 + 8 ≤ length (now s)) × (getD (now s) (at .0) 0 ≡ 0) ⌝ }
+    ensures { λ r. ⌜ shownCount r ≡ countOutcome (now (s .entry)) (at .0) ⌝ }
+{
+    let from = at.0;
+    if s.len() - 8 == from {
+        return CountRead::Refused(Refusal::Short, at);
     }
-    let value = read_le(s, from + 1, 8);
-    CountRead::Whole(Count { value, len }, next)
+    whole(from, 9, eight_in(s, from + 1))
+}
+
+// The count at a place. Where eight bytes are left they are read together and shifted: up, which drops
+// the bytes behind the count, and down past the bits that tell its length.
+pub fn read_count(s: &[u8], at: ByteOffset) -> CountRead
+    ensures { λ r. ⌜ shownCount r ≡ countOutcome (now (s .entry)) (at .0) ⌝ }
+{
+    if is_short(s, at, 8) {
+        return count_near_end(s, at);
+    }
+    let from = at.0;
+    let first = s[from];
+    if first == 0 {
+        return longest_count(s, at);
+    }
+    let zeros = u8::trailing_zeros(first) as usize;
+    let value = (eight_in(s, from) << (56 - 8 * zeros)) >> (57 - 7 * zeros);
+    whole(from, zeros + 1, value)
 }
 
 // The length of v's shortest form.

@@ -31,23 +31,22 @@ fn four_in(s: &[u8], at: usize) -> u64
         + wide(s[at + 3]) * 0x100_0000
 }
 
-fn eight_in(s: &[u8], at: usize) -> u64
+pub(crate) fn eight_in(s: &[u8], at: usize) -> u64
     requires { ⌜ at + 8 ≤ length (now s) ⌝ }
     ensures { λ r. ⌜ r ≡ leAt (now (s .entry)) at 8 ⌝ }
 {
     four_in(s, at) + four_in(s, at + 4) * 0x1_0000_0000
 }
 
-// Whether n bytes at a place are not all there. It compares with what is left and adds nothing, so
-// any place and any n will do.
+// Whether n bytes at a place are not all there. It takes n from the length and adds nothing, so any
+// place and any n will do; where n is fixed, a loop over places takes it off once.
 pub fn is_short(s: &[u8], at: ByteOffset, n: usize) -> bool
     ensures { λ r. ⌜ r ≡ isShort (now (s .entry)) (at .0) n ⌝ }
 {
-    let from = at.0;
-    if s.len() < from {
+    if s.len() < n {
         return true;
     }
-    s.len() - from < n
+    s.len() - n < at.0
 }
 
 // The number of the 4 bytes at a place; 0 where they are not all there.

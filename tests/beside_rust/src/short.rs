@@ -8,10 +8,14 @@ use crate::{
 /// First bytes of counts of each length, kinds' words, and bytes that are none of these.
 const BYTES: [u8; 12] = [0, 1, 2, 3, 4, 5, 7, 9, 0x10, 0x80, 0xFE, 0xFF];
 
+/// So many counts of each length with each number of bytes left: 1,134,000 in all.
+const COUNTS_OF_EACH: usize = 6_000;
+
 impl Run {
     pub fn all_short(&mut self) {
         self.short_counts();
         self.long_counts();
+        self.counts_among_bytes();
         self.written_counts();
         self.words();
         self.entries_written();
@@ -66,6 +70,23 @@ impl Run {
                     self.read_count(&bytes, more);
                     self.read_count(&bytes, more + 1);
                     self.read_count(&bytes, usize::MAX - more);
+                }
+            }
+        }
+    }
+
+    /// Every length behind and before any bytes, with 0 to 20 left at the count's start: eight are read
+    /// together where so many are left, and what stands behind the count must not count.
+    fn counts_among_bytes(&mut self) {
+        for len in 1..=9 {
+            for left in 0..=20 {
+                for _ in 0..COUNTS_OF_EACH {
+                    let at = self.rng.below(10);
+                    let mut bytes = self.rng.bytes(at + left);
+                    if let Some(first) = bytes.get_mut(at) {
+                        *first = first_byte(len, *first);
+                    }
+                    self.read_count(&bytes, at);
                 }
             }
         }
@@ -176,6 +197,11 @@ impl Run {
             }
         }
     }
+}
+
+/// The first byte of a count of so many bytes; its other bits are those of `any`.
+fn first_byte(len: u32, any: u8) -> u8 {
+    if len == 9 { 0 } else { (u16::from(any) << len | 1 << (len - 1)) as u8 }
 }
 
 /// 0, and each power of two with its neighbours.

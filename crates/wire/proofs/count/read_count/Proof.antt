@@ -1,71 +1,63 @@
--- `wire::count::read_count` meets its contract: at each `return` the tests that led there say which case of `countOutcome` holds.
+-- `wire::count::read_count` meets its contract: of eight bytes read together two shifts give the value, by one law for every length; elsewhere the
+-- answer is `longest_count`'s or `count_near_end`'s.
 -- Assumes nothing.
-use mathlib.Core.Path.{sym, _∙_}
-use Prim.Native.Nat.{_+_, _≤_}
+use mathlib.Core.Path.{sym, ap, _∙_}
+use Prim.Native.Nat.{ℕ, _+_, _≤_, _<_}
 use native.Mathlib.Omega.{arith}
 use borrow.Author.Needs.{needs}
-use borrow.Author.Tests.{ltb-true}
-use lib.Count.{trailingZeros, trailing-le}
+use lib.Count.{trailingZeros}
 use lib.ListN.{length, getD}
+use Rattle.wire.specs.Table.{Outcome, At, accepted}
+use Rattle.wire.specs.Le.{Bytes}
 use Rattle.wire.specs.Counts.{countLength}
+use Rattle.wire.specs.declared.count.Count.{Count}
 use Rattle.wire.proofs.Numbers.{all-there}
-use Rattle.wire.proofs.Counts.{length-least, count-short, whole-upto-8, whole-9}
+use Rattle.wire.proofs.Counts.{whole-upto-8}
+use Rattle.wire.proofs.Together.{shifted, byte-zeros, value-together}
 use Rattle.wire.proofs.count.read_count.Statement.{statement}
 use Rattle.wire.proofs.count.read_count.Tie as tie
 
-returns : tie.Need-returns
-returns c =
-    let a = c .before .before .args in
-    sym (count-short (a .s .now) (a .at .0) (omega (arith, length-least (getD (a .s .now) (a .at .0) 0))))
+-- eight bytes are left
+eight : (c : tie.Else1) → c .before .before .before .args .at .0 + 8 ≤ length (c .before .before .before .args .s .now)
+eight c = let a = c .before .before .before .args in all-there 8 (a .s .now) (a .at .0) (sym (c .before .is-short .ensures) ∙ c .if1 .left)
 
--- the length is at most 9
-most : tie.Need-cast-len
-most c = let a = c .before .before .before .args in omega (arith, trailing-le 8 (getD (a .s .now) (a .at .0) 0))
-
-add-len : tie.Need-add-len
-add-len c = let a = c .before .before .before .args in omega (arith, trailing-le 8 (getD (a .s .now) (a .at .0) 0))
-
-returns-2 : tie.Need-returns-2
-unfolding countLength
-returns-2 c =
+-- and hold the count
+fewer : (c : tie.Else2) →
+    trailingZeros 8 (getD (c .before .before .before .before .before .args .s .now) (c .before .before .before .before .before .args .at .0) 0) < 8
+fewer c =
     let a = c .before .before .before .before .before .args in
-    sym (count-short (a .s .now) (a .at .0) (ltb-true _ _ (sym (c .before .is-short .ensures) ∙ c .if2 .taken)))
-
--- the count is whole
-whole : (c : tie.Else2) →
-    c .before .before .before .before .before .args .at .0
-    + (trailingZeros 8 (getD (c .before .before .before .before .before .args .s .now) (c .before .before .before .before .before .args .at .0) 0) + 1)
-    ≤ length (c .before .before .before .before .before .args .s .now)
-whole c =
-    let a = c .before .before .before .before .before .args in
-    all-there (trailingZeros 8 (getD (a .s .now) (a .at .0) 0) + 1) (a .s .now) (a .at .0) (sym (c .before .is-short .ensures) ∙ c .if2 .left)
+    byte-zeros (getD (a .s .now) (a .at .0) 0) (c .before .before .before .before .shared-slice-known .given (a .at .0) .fits) (omega arith)
 
 returns-3 : tie.Need-returns-3
 unfolding countLength
 returns-3 c =
     let a = c .before .before .before .before .before .before .before .args in
-    rw (c .read-le .ensures) (sym (whole-upto-8 (a .s .now) (a .at .0) (whole (c .before .before)) (c .before .if3 .taken)))
-
-returns-4 : tie.Need-returns-4
-unfolding countLength
-returns-4 c =
-    let a = c .before .before .before .before .before .before .before .args in
-    rw (c .read-le2 .ensures) (sym (whole-9 (a .s .now) (a .at .0) (whole (c .before .before)) (c .before .if3 .left)))
+    let zeros = trailingZeros 8 (getD (a .s .now) (a .at .0) 0) in
+    let bytes : Bytes (a .s .now) = λ i. c .before .before .before .before .before .before .shared-slice-known .given i .fits in
+    let there = eight (c .before .before .before .before) in
+    let few = fewer (c .before .before) in
+    let value = ap (λ (w : ℕ). shifted w zeros) (c .before .eight-in .ensures) ∙ value-together (a .s .now) (a .at .0) zeros bytes there few in
+    let says : ℕ → Outcome (At Count) = λ v. accepted (record { value = record { value = v; len = zeros + 1 }; next = a .at .0 + (zeros + 1) }) in
+    c .whole .ensures ∙ ap says value ∙ sym (whole-upto-8 (a .s .now) (a .at .0) (omega arith) (omega arith))
 
 pub read-count-spec : {M : Type 1} → statement M
 read-count-spec =
     tie.close
     (tie.spec
-    returns
-    (λ c. search needs)
-    most
-    add-len
     (λ c κs. search needs)
-    returns-2
-    (λ c. omega (arith, whole c))
-    (λ c κs. (omega arith, omega (arith, whole (c .before))))
-    (λ c. omega arith)
-    returns-3
-    (λ c. omega (arith, whole (c .before)))
-    (λ c κs. (omega arith, omega (arith, whole (c .before))))
-    returns-4)
+    (λ c κs. sym (c .before .is-short .ensures) ∙ c .if1 .taken)
+    (λ c. c .count-near-end .ensures)
+    (λ c. omega (arith, eight (c .before)))
+    (λ c κs. (eight (c .before .before), c .if2 .taken))
+    (λ c. c .longest-count .ensures)
+    (λ c. omega (arith, fewer c))
+    (λ c κs. eight (c .before .before))
+    (λ c. omega (arith, fewer (c .before)))
+    (λ c. omega (arith, fewer (c .before)))
+    (λ c. search needs)
+    (λ c. omega (arith, fewer (c .before)))
+    (λ c. omega (arith, fewer (c .before)))
+    (λ c. omega (arith, fewer (c .before)))
+    (λ c. omega (arith, fewer (c .before)))
+    (λ c κs. omega (arith, fewer (c .before), eight (c .before .before .before)))
+    returns-3)

@@ -70,6 +70,11 @@ impl<'a> SliceReader<'a> {
         Self { source, pos: 0 }
     }
 
+    /// How many bytes were read.
+    pub fn position(&self) -> usize {
+        self.pos
+    }
+
     fn here(&self) -> usize {
         self.source.as_ptr() as usize + self.pos
     }
@@ -89,11 +94,13 @@ impl ByteReader for SliceReader<'_> {
         Ok(self.take(1)?[0])
     }
 
+    #[inline]
     fn peek_u8(&self) -> Result<u8, DeserializationError> {
         trace::note_peek(self.here());
         self.source.get(self.pos).copied().ok_or(DeserializationError::UnexpectedEOF)
     }
 
+    #[inline]
     fn read_slice(&mut self, len: usize) -> Result<&[u8], DeserializationError> {
         self.take(len)
     }

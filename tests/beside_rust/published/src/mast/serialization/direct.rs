@@ -157,3 +157,11 @@ pub fn encode(entry: MastNodeEntry) -> u64 {
     entry.write_into(&mut out);
     out.number()
 }
+
+/// The shim's `read_usize` at a place, and the place after it.
+#[inline]
+pub fn read_count(bytes: &[u8], at: usize) -> Result<(usize, usize), Error> {
+    let mut reader = SliceReader::new(bytes.get(at..).ok_or(Error::UnexpectedEOF)?);
+    let value = reader.read_usize()?;
+    Ok((value, at + reader.position()))
+}
