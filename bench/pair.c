@@ -7,6 +7,7 @@
 #include <string.h>
 #include <time.h>
 
+#include "form.h"
 #include "pair.h"
 
 #define ROUNDS 1500
@@ -65,14 +66,6 @@ static void ask(size_t n, int in_turn) {
         indices[i - 1] = indices[j];
         indices[j] = kept;
     }
-}
-
-// Stores a count in so many bytes, and gives their number. Of a number that is too large the upper bits are lost.
-static size_t put_count(uint8_t *to, size_t len, uint64_t v) {
-    uint64_t raw = len == 9 ? v : (2 * v + 1) << (len - 1);
-    *to = 0;
-    memcpy(to + (len == 9), &raw, len == 9 ? 8 : len);
-    return len;
 }
 
 // How long a count is. A map's are the numbers of values of its entries, one byte below 128, two below 16,384, and its own count of entries:
@@ -178,7 +171,7 @@ static const struct operation operations[] = {
     {"count, 9 bytes", OF(count), BYTES + 9, 0, MOST},
     {"count, any length", OF(count), ANY, 0, MOST},
     {"count, map", OF(count), OF_MAP, 0, MOST},
-    {"call alone", OF(call), OF_MAP, 0, MOST}, // what each count pays beside its reading
+    {"call alone", OF(call), OF_MAP, 0, MOST}, // what a count pays at least beside its reading
 };
 
 // All sides must say the same of the count at a place: the builds in all that they store and leave, the Rust in its value and the place after it.
@@ -216,9 +209,10 @@ static void hold_counts(void) {
                 hold(s, len, at);
                 hold(s, len, len + number() % 16);
                 hold(s, len, SIZE_MAX - number() % 32);
-                asked += 3;
+                asked++;
             }
-    printf("%zu counts: the same answers of older%s\n", asked, rust.count_at ? ", newer and Rust" : " and newer");
+    printf("%zu counts, and twice as many places at or past the end: the same answers of older%s\n", asked,
+           rust.count_at ? ", newer and Rust" : " and newer");
 }
 
 static double now(void) {

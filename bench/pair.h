@@ -32,7 +32,7 @@ struct counted {
     uint64_t refusal, value, len, next, place;
 };
 
-// call: an exported function that does nothing, as often as there are counts; a build before version 0.2.0 has none
+// call: `veka_version`, which is given nothing and only returns a number, as often as there are counts; a build before version 0.2.0 has none
 struct side {
     void (*scan)(void), (*slots)(void), (*entry)(void), (*digest)(void), (*children)(void), (*order)(void), (*strict)(void), (*walk)(void),
         (*lookup)(void), (*write)(void), (*count)(void), (*call)(void);

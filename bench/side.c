@@ -71,7 +71,7 @@ static struct counted count_at(const uint8_t *s, size_t len, size_t at) {
     return answer;
 }
 
-#define call 0
+enum { call = 0 }; // no function there does nothing
 
 #else
 

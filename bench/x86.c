@@ -6,6 +6,8 @@ typedef unsigned char u8;
 typedef unsigned int u32;
 typedef unsigned long u64;
 
+#include "form.h"
+
 #define MOST 4096
 
 // rows as plain numbers: there are no headers here
@@ -92,21 +94,12 @@ static void make(u64 n, u64 m, int way) {
     scan();
 }
 
-// Stores a count in so many bytes from a place of the file on, and gives the place after it. Of a number that is too large the upper bits
-// are lost.
-static u64 put_count(u64 at, u64 len, u64 v) {
-    u64 raw = len == 9 ? v : (2 * v + 1) << (len - 1);
-    if (len == 9) file[at++] = 0;
-    for (u64 i = 0; i < (len == 9 ? 8 : len); i++) file[at++] = (u8)(raw >> 8 * i);
-    return at;
-}
-
 // The map once more with each length in 1 to 9 bytes: the writer has the shortest forms alone. All values are 0.
 static void pad(u64 m) {
-    u64 at = put_count(layout[11], 9, m);
+    u64 at = layout[11] + put_count(file + layout[11], 9, m);
     for (u64 i = 0; i < m; i++) {
         for (u64 k = 0; k < 32; k++) file[at++] = (u8)(keys[4 * i + k / 8] >> 8 * (k % 8));
-        at = put_count(at, 1 + number() % 9, lengths[i]);
+        at += put_count(file + at, 1 + number() % 9, lengths[i]);
         for (u64 k = 0; k < 8 * lengths[i]; k++) file[at++] = 0;
     }
     file_len = at;
@@ -115,7 +108,7 @@ static void pad(u64 m) {
 // n counts of so many bytes end to end in place of a file, and bytes behind the last.
 static void make_counts(u64 n, u64 len) {
     u64 at = 0;
-    for (u64 i = 0; i < n; i++) at = put_count(at, len, number());
+    for (u64 i = 0; i < n; i++) at += put_count(file + at, len, number());
     file_len = at + 8;
 }
 
@@ -160,13 +153,20 @@ static u64 parse(const char *s) {
     return n;
 }
 
+// Of count-1 to count-9 the number, else 0.
+static u64 count_len(const char *name) {
+    for (const char *head = "count-"; *head; head++, name++)
+        if (*name != *head) return 0;
+    return parse(name);
+}
+
 // Makes the input, and runs the operation so many times.
 static void run(const char *name, u64 n, u64 times) {
     int way = is(name, "walk-falling") ? 2
               : is(name, "walk-shuffled") || is(name, "write-shuffled") ? 3
                                                                         : is(name, "walk-rising") || is(name, "walk-padded") ||
                                                                               is(name, "lookup") || is(name, "write-map");
-    u64 len = *name == 'c' ? parse(name + 6) : 0; // of count-1 to count-9
+    u64 len = count_len(name);
     if (len) make_counts(n, len);
     else make(way ? 16 : n, way ? n : 0, way);
     if (is(name, "walk-padded")) pad(n);

@@ -1,6 +1,6 @@
 /* Of counts: no byte outside a slice is read. The compiled reader takes eight bytes at once, so the slice lies against a page that may not be
  * touched, once before it and once behind it: a read outside ends the program. Each length of a count, with 0 to 20 bytes in the slice, at each
- * place of it; value, length and place are held to a reader that goes byte by byte. */
+ * place of it, and places past its end and near the last that there are. Value, length and place are held to a reader that goes bit by bit. */
 #define _DEFAULT_SOURCE
 #include <stdio.h>
 #include <string.h>
@@ -19,7 +19,7 @@ static uint8_t any(void) {
     return (uint8_t)(seed >> 32);
 }
 
-/* byte by byte: 0 and the count, or VEKA_SHORT */
+/* bit by bit: 0 and the count, or VEKA_SHORT */
 static uint64_t plain(const uint8_t *s, size_t len, size_t at, veka_count_t *count) {
     size_t n = 1, bits = 0;
     if (at >= len)
@@ -66,6 +66,8 @@ int main(void) {
                         first[i] = last[i] = i == at ? (uint8_t)((any() | 1) << (n - 1)) : any();
                     held(first, len, at);
                     held(last, len, at);
+                    held(last, len, len + 1 + at);
+                    held(last, len, SIZE_MAX - at);
                 }
     printf("%u counts, %u wrong\n", calls, wrong);
     return wrong != 0;

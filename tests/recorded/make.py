@@ -871,16 +871,16 @@ def counts():
             case("veka_write_count", at, TOP, lent=some(size))
 
 
-WORDS = "veka_digest, one word"
-TWO_WORDS = "veka_walk, two words", "veka_lookup, two words"
-
-
 def counts_among_bytes():
     """Every length with 6 to 11 bytes left: eight are read together where they are left, and the longest form has nine."""
     for size in range(1, 10):
         for left in range(6, 12):
             at = rng.randrange(4)
             case("veka_read_count", at, s=(some(at) + form(number() % 2**min(7 * size, 64), size) + some(10))[:at + left])
+
+
+WORDS = "veka_digest, one word"
+TWO_WORDS = "veka_walk, two words", "veka_lookup, two words"
 
 
 def words():

@@ -1,4 +1,5 @@
--- The worked examples of the format, P1 to P10, by one statement over one list: what the definitions answer is what the paper says.
+-- The worked examples of the format, P1 to P10, and those of requests, by one statement over one list: what the definitions answer is what the
+-- papers say.
 -- antt computes both sides.
 -- Assumes nothing.
 use mathlib.Core.Path.{_≡_, refl}
@@ -7,7 +8,7 @@ use mathlib.Core.List.{List, [], _∷_, _++_, map}
 use Prim.Native.Nat.{ℕ, _-_, _^_}
 use lib.Count.{trailingZeros, ones, onesIn}
 use Rattle.wire.specs.Table.{Outcome, refused, accepted, firstMet, _>>=_, At}
-use Rattle.wire.specs.Refusals.{TAG, PAYLOAD}
+use Rattle.wire.specs.Refusals.{SHORT, TAG, PAYLOAD}
 use Rattle.wire.specs.Le.{le, leBytes}
 use Rattle.wire.specs.Counts.{countLength, countValue, counted, countOutcome, leastFrom, shortestLen, countForm, countBytes}
 use Rattle.wire.specs.Rows.{numbersOf}
@@ -160,6 +161,11 @@ examples =
     })))
     ∷ (slots hashlessFile ⇒ table (0 ∷ 0 ∷ 1 ∷ []))
     ∷ (page hashlessFile ⇒ bytes page10)
+    -- request 4: bytes behind a count; a first byte of 0, with seven bytes after it and with eight
+    ∷ (count (0x01 ∷ 0xFF ∷ 0xFF ∷ 0xFF ∷ 0xFF ∷ 0xFF ∷ 0xFF ∷ 0xFF ∷ []) ⇒ says 0 1)
+    ∷ (count (0x40 ∷ 0x00 ∷ 0x00 ∷ 0x00 ∷ 0x00 ∷ 0x00 ∷ 0x80 ∷ 0xFF ∷ []) ⇒ says (2 ^ 48) 7)
+    ∷ (count (0x00 ∷ 0xFF ∷ 0xFF ∷ 0xFF ∷ 0xFF ∷ 0xFF ∷ 0xFF ∷ 0xFF ∷ []) ⇒ counts (refused SHORT 0))
+    ∷ (count (0x00 ∷ 0xFF ∷ 0xFF ∷ 0xFF ∷ 0xFF ∷ 0xFF ∷ 0xFF ∷ 0xFF ∷ 0xFF ∷ []) ⇒ says (2 ^ 64 - 1) 9)
     ∷ []
 
 pub answered : map (λ (x : Example). ask (x .question)) examples ≡ map (λ (x : Example). x .answer) examples

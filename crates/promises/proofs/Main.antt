@@ -4,6 +4,7 @@
 -- Assumes nothing.
 use mathlib.Core.Bool.{Bool}
 use mathlib.Core.List.{List, _++_}
+use mathlib.Core.Logic.{_↔_}
 use Prim.Native.Nat.{ℕ, _≤_}
 use lib.ListN.{length}
 use Rattle.wire.specs.Le.{Bytes}
@@ -68,6 +69,6 @@ pub demand-3 : (f : FormatFacts) (s : List ℕ) (places entries e : ℕ) → Acc
     → (o₀ o : List ℕ) (r : ForestWrite) → e ≤ length o₀ → Writes f (partsShown f s) o₀ o r → Demand3 f s entries o r
 demand-3 = shortest-demanded
 
--- Request 4. A count is read as it was; where eight bytes are left it is those eight as one word, shifted.
-pub request-4 : (s : List ℕ) (at : ℕ) (r : CountRead) → Bytes s → ReadsCount s at r → Request4 s at r
+-- Request 4. What the count reader promises is what one says that takes eight bytes, where they are left, as one word and shifts it, and nothing else.
+pub request-4 : (s : List ℕ) (at : ℕ) (r : CountRead) → Bytes s → ReadsCount s at r ↔ Request4 s at r
 request-4 = counts-together

@@ -16,7 +16,7 @@ use Rattle.wire.proofs.Forms.{pow-256, trailing-all}
 pub byte-zeros : (b : ℕ) → b < 256 → 0 < b → trailingZeros 8 b < 8
 byte-zeros b h p = lt-of-not-le (λ (g : 8 ≤ trailingZeros 8 b). omega (arith, trailing-all 8 b (omega (arith, trailing-le 8 b)), mod-eq-of-lt h))
 
--- of j low digits a, with r above them, in a word of j + k digits: up by k, so that nothing is above them, and down again past their n lowest
+-- of j low bits a, with r above them, in a word of j + k bits: up by k, so that nothing is above them, and down again past their n lowest
 shifted-field : (a r j k n : ℕ) → a < 2 ^ j → (a + 2 ^ j * r) * 2 ^ k % 2 ^ (j + k) / 2 ^ (n + k) ≡ a / 2 ^ n
 shifted-field a r j k n h =
     let e : (a + 2 ^ j * r) * 2 ^ k ≡ r * 2 ^ (j + k) + a * 2 ^ k = rw pow-add (omega arith) in
@@ -27,7 +27,7 @@ shifted-field a r j k n h =
 abbrev pub shifted : ℕ → ℕ → ℕ
 shifted word zeros = word * 2 ^ (56 - 8 * zeros) % 2 ^ 64 / 2 ^ (57 - 7 * zeros)
 
--- what is left are the count's own bytes, one more than its zeros, without as many bits
+-- what is left is the count's own bytes, one more than its zeros, without as many low bits as they are bytes
 pub value-together : (s : List ℕ) (at zeros : ℕ) → Bytes s → at + 8 ≤ length s → zeros < 8
     → shifted (leAt s at 8) zeros ≡ leAt s at (zeros + 1) / 2 ^ (zeros + 1)
 value-together s at zeros bs h m =

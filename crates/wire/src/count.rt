@@ -75,7 +75,8 @@ fn count_near_end(s: &[u8], at: ByteOffset) -> CountRead
     whole(from, len, read_le(s, from, len) >> len)
 }
 
-// The count at a place with eight bytes left whose first is 0: the eight after it, if there is one more.
+// The count at a place with eight bytes left, or more, of which the first is 0: the eight after it, if
+// nine are left.
 fn longest_count(s: &[u8], at: ByteOffset) -> CountRead
     requires { ⌜ (at .0 + 8 ≤ length (now s)) × (getD (now s) (at .0) 0 ≡ 0) ⌝ }
     ensures { λ r. ⌜ shownCount r ≡ countOutcome (now (s .entry)) (at .0) ⌝ }
