@@ -70,7 +70,7 @@ static void ask(size_t n, int in_turn) {
 
 // How long a count is. A map's are the numbers of values of its entries, one byte below 128, two below 16,384, and its own count of entries:
 // of ten seven of one byte, and nearly all others of two. That is assumed, and not taken from stored files.
-static size_t length(enum input input) {
+static size_t count_len(enum input input) {
     if (input == ANY) return 1 + number() % 9;
     if (input > BYTES) return input - BYTES;
     uint64_t part = number() % 100;
@@ -83,7 +83,7 @@ static void make_counts(size_t n, enum input input) {
     size_t at = 0;
     for (size_t i = 0; i < n; i++) {
         begins[i] = at;
-        at += put_count(counts + at, length(input), number());
+        at += put_count(counts + at, count_len(input), number());
     }
     for (size_t i = 0; i < n; i++) places[i] = begins[indices[i]];
     counts_held = n;
@@ -96,7 +96,7 @@ static void pad(void) {
     to += put_count(to, 9, entries);
     for (size_t i = 0; i < entries; i++) {
         memcpy(to, keys + 4 * i, 32);
-        to += 32 + put_count(to + 32, length(ANY), lengths[i]);
+        to += 32 + put_count(to + 32, count_len(ANY), lengths[i]);
         memset(to, 0, 8 * lengths[i]);
         to += 8 * lengths[i];
     }
