@@ -15,10 +15,10 @@
 
 const uint8_t magic[4] = {'M', 'A', 'S', 'T'}, version[3] = {0, 0, 1}, hashless = 1, reserved = 0xfe;
 const size_t max_nodes = 1 << 30;
-uint64_t words[MOST], keys[4 * MOST], lengths[MOST], values[3 * MOST], layout[12], offsets[MOST];
+uint64_t words[MOST], keys[4 * MOST], lengths[MOST], values[3 * MOST], layout[13], offsets[MOST];
 uint8_t digests[32 * MOST], file[128 * MOST], out[128 * MOST];
 uint32_t table[MOST], indices[MOST];
-size_t nodes, entries, externals, held, file_len, out_len;
+size_t nodes, entries, externals, held, file_len, out_len, scans = 1;
 int keys_rise;
 uint8_t counts[9 * MOST + BEHIND];
 uint64_t places[MOST];
@@ -27,9 +27,11 @@ size_t counts_held, counts_len;
 static const struct side *const sides[SIDES] = {&older, &newer, &rust};
 static const char *const names[SIDES] = {"older", "newer", "Rust"};
 
-// Nodes in the order of their classes, or of all kinds in any order, and no map; or a map with its keys so (PADDED: rising, and lengths in 1 to 9
-// bytes); or counts as in a map, of any length, or of n bytes (BYTES + n).
-enum input { CLASSES, MIXED, RISING, PADDED, FALLING, SHUFFLED, OF_MAP, ANY, BYTES };
+// Nodes in the order of their classes, or of all kinds in any order, and no map; few nodes, in a file that is scanned n times (SMALL_PADDED: its
+// counts in 9 bytes); a map with its keys so (PADDED: rising, and lengths in 1 to 9 bytes; FIVE: all lengths in 5, as of a packer that patches
+// them later); or counts as in a map, of any length (LONG: of small numbers, so that all but those of one byte are long; HALF: half of them
+// small), or of n bytes (BYTES + n).
+enum input { CLASSES, MIXED, SMALL, SMALL_PADDED, RISING, PADDED, FIVE, FALLING, SHUFFLED, OF_MAP, ANY, LONG, HALF, BYTES };
 
 static uint64_t seed = 88172645463325252;
 
@@ -71,36 +73,52 @@ static void ask(size_t n, int in_turn) {
 // How long a count is. A map's are the numbers of values of its entries, one byte below 128, two below 16,384, and its own count of entries:
 // of ten seven of one byte, and nearly all others of two. That is assumed, and not taken from stored files.
 static size_t count_len(enum input input) {
-    if (input == ANY) return 1 + number() % 9;
+    if (input == FIVE) return 5;
+    if (input == PADDED || input == ANY || input == LONG || input == HALF) return 1 + number() % 9;
     if (input > BYTES) return input - BYTES;
     uint64_t part = number() % 100;
     return part < 70 ? 1 : part < 97 ? 2 : 3;
 }
 
-// n counts of random value, and their places in the order of the indices.
+// n counts of random value, which of so many bytes is hardly ever less than they are for, or of a small one; and their places in the order of
+// the indices.
 static void make_counts(size_t n, enum input input) {
     static size_t begins[MOST];
     size_t at = 0;
     for (size_t i = 0; i < n; i++) {
+        int small = input == LONG || (input == HALF && number() % 2);
         begins[i] = at;
-        at += put_count(counts + at, count_len(input), number());
+        at += put_count(counts + at, count_len(input), small ? number() % 128 : number());
     }
     for (size_t i = 0; i < n; i++) places[i] = begins[indices[i]];
     counts_held = n;
     counts_len = at + BEHIND;
 }
 
-// The map once more, in the same place, with each length in 1 to 9 bytes: the writer has the shortest forms alone. All values are 0.
-static void pad(void) {
+// The map once more, in the same place, with its lengths in longer forms: the writer has the shortest alone. All values are 0.
+static void pad(enum input input) {
     uint8_t *to = file + layout[11];
     to += put_count(to, 9, entries);
     for (size_t i = 0; i < entries; i++) {
         memcpy(to, keys + 4 * i, 32);
-        to += 32 + put_count(to + 32, count_len(ANY), lengths[i]);
+        to += 32 + put_count(to + 32, count_len(input), lengths[i]);
         memset(to, 0, 8 * lengths[i]);
         to += 8 * lengths[i];
     }
     file_len = (size_t)(to - file);
+}
+
+// The file once more, from where it was written, with its four counts in 9 bytes each: it has one root and no block data.
+static void pad_counts(void) {
+    size_t rest = file_len - layout[5];
+    uint8_t *to = file + 8;
+    to += put_count(to, 9, layout[1]);
+    to += put_count(to, 9, layout[2]);
+    to += put_count(to, 9, 1);
+    memcpy(to, out + layout[4], 4);
+    to += 4 + put_count(to + 4, 9, 0);
+    memcpy(to, out + layout[5], rest);
+    file_len = (size_t)(to - file) + rest;
 }
 
 // A file of n nodes and no map, or of a few nodes and a map of n entries; or n counts.
@@ -110,9 +128,10 @@ static void make(size_t n, enum input input) {
         return;
     }
     nodes = input <= MIXED ? n : 16;
-    entries = input <= MIXED ? 0 : n;
+    entries = input <= SMALL_PADDED ? 0 : n;
+    scans = 1;
     externals = held = 0;
-    keys_rise = input <= PADDED;
+    keys_rise = input <= FIVE;
     for (size_t i = 0; i < nodes; i++) externals += (words[i] = word(i, nodes, input)) >> 60 == 8;
     for (size_t i = 0; i < entries; i++) {
         keys[4 * i] = (uint64_t)(keys_rise ? i : input == FALLING ? entries - 1 - i : i * 2654435761u % entries) << 40;
@@ -122,7 +141,9 @@ static void make(size_t n, enum input input) {
     memcpy(file, out, file_len = out_len);
     newer.scan();
     newer.slots();
-    if (input == PADDED) pad();
+    if (input == SMALL_PADDED) pad_counts();
+    if (input == SMALL || input == SMALL_PADDED) scans = n;
+    if (input == PADDED || input == FIVE) pad(input);
     else if (entries) newer.walk();
 }
 
@@ -139,6 +160,8 @@ struct operation {
 static const struct operation operations[] = {
     {"scan", OF(scan), CLASSES, 1, MOST},
     {"scan, mixed", OF(scan), MIXED, 1, MOST},
+    {"scan, 16 nodes", OF(scan), SMALL, 1, MOST}, // ns for the whole scan of a small file
+    {"scan, 16, padded", OF(scan), SMALL_PADDED, 1, MOST},
     {"slots", OF(slots), CLASSES, 1, MOST},
     {"entry, in turn", OF(entry), CLASSES, 1, MOST},
     {"entry, random", OF(entry), CLASSES, 0, MOST},
@@ -152,6 +175,7 @@ static const struct operation operations[] = {
     {"strict, mixed", OF(strict), MIXED, 1, MOST},
     {"walk, rising", OF(walk), RISING, 1, MOST},
     {"walk, padded", OF(walk), PADDED, 1, MOST},
+    {"walk, 5 bytes", OF(walk), FIVE, 1, MOST},
     {"walk, falling", OF(walk), FALLING, 1, MOST},
     {"walk, shuffled", OF(walk), SHUFFLED, 1, MOST},
     {"lookup", OF(lookup), RISING, 0, MOST},
@@ -170,9 +194,19 @@ static const struct operation operations[] = {
     {"count, 8 bytes", OF(count), BYTES + 8, 0, MOST},
     {"count, 9 bytes", OF(count), BYTES + 9, 0, MOST},
     {"count, any length", OF(count), ANY, 0, MOST},
+    {"count, long", OF(count), LONG, 0, MOST},
+    {"count, half long", OF(count), HALF, 0, MOST},
     {"count, map", OF(count), OF_MAP, 0, MOST},
     {"call alone", OF(call), OF_MAP, 0, MOST}, // what a count pays at least beside its reading
 };
+
+// What a build has to say of the shortest form: the number's bits tell how many bytes that has. Before version 0.4.0 and of a refusal nothing.
+static uint64_t shortest_due(const struct side *side, const struct counted *got) {
+    if (got->refusal || !side->version || side->version() < 400) return MARK;
+    size_t bits = 0;
+    for (uint64_t v = got->value; v; v >>= 1) bits++;
+    return got->len == (bits > 56 ? 9 : bits > 7 ? (bits + 6) / 7 : 1);
+}
 
 // All sides must say the same of the count at a place: the builds in all that they store and leave, the Rust in its value and the place after it.
 static void hold(const uint8_t *s, size_t len, size_t at) {
@@ -182,20 +216,22 @@ static void hold(const uint8_t *s, size_t len, size_t at) {
         if (!sides[k]->count_at) continue;
         got[k] = sides[k]->count_at(s, len, at);
         same &= !got[k].refusal == !got[0].refusal && got[k].value == got[0].value && got[k].next == got[0].next;
+        if (k < 2) same &= got[k].shortest == shortest_due(sides[k], &got[k]);
     }
-    if (same && memcmp(&got[0], &got[1], sizeof *got) == 0) return;
+    if (same && memcmp(&got[0], &got[1], offsetof(struct counted, shortest)) == 0) return;
     fprintf(stderr, "pair: not the same count at %zu of %zu bytes:", at, len);
     for (size_t i = 0; i < len; i++) fprintf(stderr, " %02x", s[i]);
     for (int k = 0; k < SIDES; k++)
         if (sides[k]->count_at)
-            fprintf(stderr, "\n  %s: refusal %" PRIu64 ", value %" PRIx64 ", len %" PRIx64 ", next %" PRIx64 ", place %" PRIx64, names[k],
-                    got[k].refusal, got[k].value, got[k].len, got[k].next, got[k].place);
+            fprintf(stderr,
+                    "\n  %s: refusal %" PRIu64 ", value %" PRIx64 ", len %" PRIx64 ", next %" PRIx64 ", place %" PRIx64 ", shortest %" PRIx64,
+                    names[k], got[k].refusal, got[k].value, got[k].len, got[k].next, got[k].place, got[k].shortest);
     fprintf(stderr, "\n");
     exit(1);
 }
 
-// Each length of a count with 0 to 20 bytes left from its start on, any bytes before, in and behind it and behind the end; and places
-// from the end on and up to 2^64.
+// Each length of a count with 0 to 20 bytes left from its start on, any bytes before, in and behind it and behind the end, half of them of a
+// number that may have a shorter form; and places from the end on and up to 2^64.
 static void hold_counts(void) {
     static uint64_t bytes[6];
     uint8_t *s = (uint8_t *)bytes;
@@ -206,6 +242,7 @@ static void hold_counts(void) {
                 for (size_t i = 0; i < sizeof bytes / sizeof *bytes; i++) bytes[i] = number();
                 size_t at = number() % 16, len = at + left;
                 s[at] = (uint8_t)((s[at] | 1u) << (n - 1));
+                if (round % 2) put_count(s + at, n, number() >> number() % 64);
                 hold(s, len, at);
                 hold(s, len, len + number() % 16);
                 hold(s, len, SIZE_MAX - number() % 32);
@@ -245,7 +282,7 @@ static void row(const struct operation *operation, size_t n) {
     size_t among = call_of(&rust, operation) ? SIDES : SIDES - 1;
     // kinds and lengths in any order are new to all each time: a file that comes again is learnt by heart
     enum input input = operation->input;
-    int anew = input == MIXED || input == PADDED || input == ANY || input == OF_MAP;
+    int anew = input == MIXED || input == PADDED || input == OF_MAP || input == ANY || input == LONG || input == HALF;
     ask(n, operation->in_turn);
     make(n, input);
     // the slow ones fewer times

@@ -10,9 +10,9 @@ static void count(void) {
     for (size_t i = 0; i < counts_held; i++) must(published_read_count(counts, counts_len, places[i], &value, &next));
 }
 
-// It says no length and no place.
+// It says no length, no place and nothing of the shortest form.
 static struct counted count_at(const uint8_t *s, size_t len, size_t at) {
-    struct counted answer = {0, MARK, MARK, MARK, MARK};
+    struct counted answer = {0, MARK, MARK, MARK, MARK, MARK};
     answer.refusal = published_read_count(s, len, at, &answer.value, &answer.next);
     return answer;
 }

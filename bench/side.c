@@ -1,5 +1,6 @@
 // One build's side: SIDE is its name (older, newer). With VK it has the functions of libcapi.a, over rows with lengths; else those of
-// libvekalumist.a, by the header's inline functions.
+// libvekalumist.a, by the header's inline functions. The header is this tree's, whose rows are the longest: of a build before version 0.4.0
+// a scan, a walk and a count store one number less at the start of what is lent, and the rest stays.
 #include <stdbool.h>
 #include "pair.h"
 
@@ -29,7 +30,7 @@ static void set_facts(void) {
 
 static void scan(void) {
     set_facts();
-    must(vk_scan(file, file_len, facts, 10, true, 0, 0, layout, 12));
+    for (size_t i = 0; i < scans; i++) must(vk_scan(file, file_len, facts, 10, true, 0, 0, layout, 12));
 }
 
 static void slots(void) { must(vk_slots(file, file_len, layout, 12, 0, 0, table, nodes, row, 12)); }
@@ -66,12 +67,12 @@ static void count(void) {
 
 // A refusal's place comes as the row's first number, and nothing is stored behind an answer's three.
 static struct counted count_at(const uint8_t *s, size_t len, size_t at) {
-    uint64_t got[4] = {MARK, MARK, MARK, MARK}, refusal = vk_read_count(s, len, at, got, 4);
-    struct counted answer = {refusal, got[refusal ? 3 : 0], got[1], got[2], got[refusal ? 0 : 3]};
+    uint64_t got[5] = {MARK, MARK, MARK, MARK, MARK}, refusal = vk_read_count(s, len, at, got, 5);
+    struct counted answer = {refusal, got[refusal ? 3 : 0], got[1], got[2], got[refusal ? 0 : 3], got[4]};
     return answer;
 }
 
-enum { call = 0 }; // no function there does nothing
+enum { call = 0, veka_version = 0 }; // no function there does nothing
 
 #else
 
@@ -88,7 +89,7 @@ static veka_layout_t *const at = (veka_layout_t *)layout;
 
 static void scan(void) {
     veka_facts_t facts = facts_given();
-    must(veka_scan(file, file_len, &facts, true, veka_no_bound(), at, &place));
+    for (size_t i = 0; i < scans; i++) must(veka_scan(file, file_len, &facts, true, veka_no_bound(), (veka_scanned_t *)layout, &place));
 }
 
 static void slots(void) {
@@ -146,12 +147,12 @@ static void call(void) {
 }
 
 static struct counted count_at(const uint8_t *s, size_t len, size_t at) {
-    veka_count_t got = {MARK, MARK, MARK};
+    veka_count_t got = {MARK, MARK, MARK, MARK};
     uint64_t where = MARK, refusal = veka_read_count(s, len, at, &got, &where);
-    struct counted answer = {refusal, got.value, got.len, got.next, where};
+    struct counted answer = {refusal, got.value, got.len, got.next, where, got.shortest};
     return answer;
 }
 
 #endif
 
-const struct side SIDE = {scan, slots, entry, digest, children, order, strict, walk, lookup, write, count, call, count_at};
+const struct side SIDE = {veka_version, scan, slots, entry, digest, children, order, strict, walk, lookup, write, count, call, count_at};

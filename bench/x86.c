@@ -11,7 +11,7 @@ typedef unsigned long u64;
 #define MOST 4096
 
 // rows as plain numbers: there are no headers here
-u64 veka_raw_scan(const u8 *s, u64 len, const u8 *marks, u64 max_nodes, _Bool allow, const u64 *bound, u64 *layout, u64 *place);
+u64 veka_raw_scan(const u8 *s, u64 len, const u8 *marks, u64 max_nodes, _Bool allow, const u64 *bound, u64 *scanned, u64 *place);
 u64 veka_raw_slots(const u8 *s, u64 len, const u64 *layout, const u64 *bound, u32 *table, u64 table_len, u64 *left, u64 *place);
 u64 veka_raw_entry(const u8 *s, u64 len, const u64 *layout, u64 index, u64 *entry, u64 *place);
 u64 veka_raw_digest_with_table(const u8 *s, u64 len, const u64 *layout, u64 index, const u32 *table, u64 table_len, u64 *digest, u64 *place);
@@ -31,7 +31,7 @@ void *memset(void *to, int x, u64 n) {
 
 static const u8 marks[9] = {'M', 'A', 'S', 'T', 0, 0, 1, 1, 0xfe};
 static const u64 max_nodes = 1 << 30, no_bound[2];
-static u64 words[MOST], keys[4 * MOST], lengths[MOST], values[8 * MOST], offsets[MOST], order[MOST], claimed, layout[12], row[12], place;
+static u64 words[MOST], keys[4 * MOST], lengths[MOST], values[8 * MOST], offsets[MOST], order[MOST], claimed, layout[13], row[12], place;
 static u8 digests[32 * MOST], file[512 * MOST];
 static u32 table[MOST];
 static u64 file_len, seed = 88172645463325252;
@@ -105,10 +105,11 @@ static void pad(u64 m) {
     file_len = at;
 }
 
-// n counts of so many bytes end to end in place of a file, and bytes behind the last.
-static void make_counts(u64 n, u64 len) {
+// n counts of so many bytes end to end in place of a file, and bytes behind the last. A random number is hardly ever less than they are for;
+// a small one makes all of two bytes and more long.
+static void make_counts(u64 n, u64 len, int small) {
     u64 at = 0;
-    for (u64 i = 0; i < n; i++) at += put_count(file + at, len, number());
+    for (u64 i = 0; i < n; i++) at += put_count(file + at, len, small ? number() % 128 : number());
     file_len = at + 8;
 }
 
@@ -153,9 +154,9 @@ static u64 parse(const char *s) {
     return n;
 }
 
-// Of count-1 to count-9 the number, else 0.
-static u64 count_len(const char *name) {
-    for (const char *head = "count-"; *head; head++, name++)
+// Of count-1 to count-9, or long-1 to long-9, the number, else 0.
+static u64 number_behind(const char *head, const char *name) {
+    for (; *head; head++, name++)
         if (*name != *head) return 0;
     return parse(name);
 }
@@ -166,8 +167,8 @@ static void run(const char *name, u64 n, u64 times) {
               : is(name, "walk-shuffled") || is(name, "write-shuffled") ? 3
                                                                         : is(name, "walk-rising") || is(name, "walk-padded") ||
                                                                               is(name, "lookup") || is(name, "write-map");
-    u64 len = count_len(name);
-    if (len) make_counts(n, len);
+    u64 small = number_behind("long-", name), len = small ? small : number_behind("count-", name);
+    if (len) make_counts(n, len, small != 0);
     else make(way ? 16 : n, way ? n : 0, way);
     if (is(name, "walk-padded")) pad(n);
     if (is(name, "digest")) slots(n);

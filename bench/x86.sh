@@ -50,7 +50,7 @@ once() {
 low=512 high=1024
 printf '%-14s %10s %12s %12s\n' operation "per node" "at $low" "at $high"
 for operation in plain scan slots entry digest walk-rising walk-padded walk-falling walk-shuffled lookup write write-map write-shuffled \
-    count-1 count-2 count-3 count-4 count-5 count-6 count-7 count-8 count-9; do
+    count-1 count-2 count-3 count-4 count-5 count-6 count-7 count-8 count-9 long-2 long-3 long-5 long-8 long-9; do
     if a=$(once $operation $low) && b=$(once $operation $high); then
         awk -v name=$operation -v a="$a" -v b="$b" -v low=$low -v high=$high \
             'BEGIN { printf "%-14s %10.2f %12d %12d\n", name, (b - a) / (high - low), a, b }'

@@ -51,7 +51,8 @@ static void show(const veka_layout_t *at, const veka_walked_t *map) {
 }
 
 int main(int argc, char **argv) {
-    veka_layout_t layout;
+    veka_scanned_t scanned;
+    const veka_layout_t *layout = &scanned.layout;
     veka_walked_t map;
     uint64_t number, place, places, *keys = NULL;
     size_t len = 0;
@@ -60,18 +61,18 @@ int main(int argc, char **argv) {
         fprintf(stderr, "usage: layout FILE, where FILE can be read\n");
         return 2;
     }
-    number = veka_scan(file, len, &facts, true, veka_no_bound(), &layout, &place);
+    number = veka_scan(file, len, &facts, true, veka_no_bound(), &scanned, &place);
     if (number == VEKA_OK) {
-        places = veka_places(file, len, layout.advice_map_offset);
+        places = veka_places(file, len, layout->advice_map_offset);
         keys = (uint64_t *)calloc(places, sizeof *keys);
         if (places && !keys) {
             fprintf(stderr, "layout: no memory for %" PRIu64 " keys\n", places);
             return 2;
         }
-        number = veka_walk(file, len, layout.advice_map_offset, keys, places, &map, &place);
+        number = veka_walk(file, len, layout->advice_map_offset, keys, places, &map, &place);
     }
     if (number == VEKA_OK)
-        show(&layout, &map);
+        show(layout, &map);
     else
         printf("refused %" PRIu64 " at %" PRIu64 "\n", number, place);
     free(keys);

@@ -29,27 +29,28 @@ static int refused(uint64_t number, uint64_t place) {
 
 static int print_roots(const uint8_t *file, size_t len) {
     veka_facts_t facts = {{'M', 'A', 'S', 'T'}, {0, 0, 2}, 0x02, 0xFC, (1 << 30) - 1};
-    veka_layout_t layout;
-    uint64_t place, number = veka_scan(file, len, &facts, true, veka_no_bound(), &layout, &place);
+    veka_scanned_t scanned;
+    const veka_layout_t *layout = &scanned.layout;
+    uint64_t place, number = veka_scan(file, len, &facts, true, veka_no_bound(), &scanned, &place);
     if (number != VEKA_OK) return refused(number, place);
-    for (uint64_t i = 0; i < layout.roots_count; i++) {
+    for (uint64_t i = 0; i < layout->roots_count; i++) {
         uint32_t node;
         veka_digest_t d;
-        number = veka_root(file, len, &layout, i, &node, &place);
+        number = veka_root(file, len, layout, i, &node, &place);
         if (number != VEKA_OK) return refused(number, place);
         printf("root: node %" PRIu32 ", ", node);
-        number = veka_digest(file, len, &layout, node, &d, &place);
+        number = veka_digest(file, len, layout, node, &d, &place);
         if (number != VEKA_OK) printf("no digest: %s\n", veka_refusal_name(number));
         else printf("%016" PRIx64 " %016" PRIx64 " %016" PRIx64 " %016" PRIx64 "\n", d.n[0], d.n[1], d.n[2], d.n[3]);
     }
     veka_walked_t map;
-    uint64_t places = veka_places(file, len, layout.advice_map_offset);
+    uint64_t places = veka_places(file, len, layout->advice_map_offset);
     uint64_t *keys = (uint64_t *)calloc(places, sizeof *keys);
     if (keys == NULL && places > 0) {
         perror("key places");
         return 2;
     }
-    number = veka_walk(file, len, layout.advice_map_offset, keys, places, &map, &place);
+    number = veka_walk(file, len, layout->advice_map_offset, keys, places, &map, &place);
     free(keys);
     if (number != VEKA_OK) return refused(number, place);
     printf("map: %" PRIu64 " entries, ends at byte %" PRIu64 ", %" PRIu64 " bytes follow\n", map.entries, map.end, map.trailing);

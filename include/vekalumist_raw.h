@@ -44,6 +44,12 @@ typedef struct {
     uint64_t advice_map_offset;      /* bytes; for veka_walk */
 } veka_layout_t;
 
+/* What the scan gives of an accepted file. */
+typedef struct {
+    veka_layout_t layout;
+    uint64_t long_counts; /* how many of its four counts are long, 0 to 4: internal nodes, external nodes, roots, bytes of block data */
+} veka_scanned_t;
+
 /* A node entry; a number that the kind has not is 0 where it is read. */
 typedef struct {
     uint64_t kind;   /* VEKA_JOIN to VEKA_EXTERNAL */
@@ -54,8 +60,9 @@ typedef struct {
 /* A count (vint64) that was read. */
 typedef struct {
     uint64_t value;
-    uint64_t len;  /* its bytes, 1 to 9; longer forms than needed are read */
-    uint64_t next; /* the byte offset after it */
+    uint64_t len;      /* its bytes, 1 to 9; longer forms than needed are read */
+    uint64_t next;     /* the byte offset after it */
+    uint64_t shortest; /* 1: its value has no shorter form; 0: it has one, and the count is long */
 } veka_count_t;
 
 /* The four numbers of a digest, and those of a key: two types, so that one is not taken for the other. */
@@ -69,9 +76,10 @@ typedef struct {
 
 /* A walked map. */
 typedef struct {
-    uint64_t entries;  /* how many, and how many places of the key table were filled */
-    uint64_t end;      /* the byte offset after the map */
-    uint64_t trailing; /* bytes that follow it: 0 exactly if nothing does */
+    uint64_t entries;     /* how many, and how many places of the key table were filled */
+    uint64_t end;         /* the byte offset after the map */
+    uint64_t trailing;    /* bytes that follow it: 0 exactly if nothing does */
+    uint64_t long_counts; /* how many of its counts are long: its own, and the length of each entry */
 } veka_walked_t;
 
 /* An entry of the map. */
@@ -111,7 +119,7 @@ uint64_t veka_encode_entry(const veka_entry_t *entry, uint64_t *word, uint64_t *
 uint64_t veka_raw_flags(const uint8_t *s, size_t s_len, uint8_t *flags, uint64_t *place);
 
 uint64_t veka_raw_scan(const uint8_t *s, size_t s_len, const veka_marks_t *marks, size_t max_nodes, bool allow, const veka_bound_t *bound,
-                       veka_layout_t *layout, uint64_t *place);
+                       veka_scanned_t *scanned, uint64_t *place);
 
 uint64_t veka_raw_root(const uint8_t *s, size_t s_len, const veka_layout_t *layout, size_t index, uint32_t *root, uint64_t *place);
 

@@ -187,6 +187,9 @@ two = [("has_node_hashes", "u64"), ("node_hash_offset", "ByteOffset")]
 of_rattle = [f for own in of_rattle for f in (two if own == ("node_hash_offset", "HashSection") else [own])]
 same("veka_layout_t", [name for name, _ in raw_structs.get("veka_layout_t", [])], [name for name, _ in of_rattle])
 same("rust/src/layout.rs: Layout", of_rust.get("Layout"), of_rattle)
+# what the scan gives: the layout, and then one number
+same("veka_scanned_t", raw_structs.get("veka_scanned_t"), [(f"layout.{name}", "u64") for name, _ in of_rattle] + [("long_counts", "u64")])
+same("rust/src/layout.rs: Scanned", of_rust.get("Scanned"), of_rattle + [("long_counts", "usize")])
 
 # ---- numbers that have names: version, refusals, kinds
 

@@ -48,10 +48,13 @@ pub fn push_form(len: u32, value: u64, out: &mut Vec<u8>) {
     }
 }
 
+fn shortest_len(value: u64) -> u32 {
+    (1..=8).find(|len| value >> (7 * len) == 0).unwrap_or(9)
+}
+
 /// A count in its shortest form.
 fn push_count(value: u64, out: &mut Vec<u8>) {
-    let len = (1..=8u32).find(|len| value >> (7 * len) == 0).unwrap_or(9);
-    push_form(len, value, out);
+    push_form(shortest_len(value), value, out);
 }
 
 /// The parts of a file, as the writer takes them.
@@ -159,6 +162,27 @@ pub fn doubled(mut parts: Parts) -> Parts {
 
 /// The file of these parts.
 pub fn render(parts: &Parts) -> Vec<u8> {
+    let mut out = render_forest(parts);
+    push_map(parts, push_count, &mut out);
+    out
+}
+
+/// The same with each count of the map in 1 to 9 bytes, and how many of them are long.
+pub fn render_padded(parts: &Parts) -> (Vec<u8>, usize) {
+    let mut out = render_forest(parts);
+    let (mut numbers, mut long) = (Numbers::new(parts.lengths.len() as u64), 0);
+    let push_padded = |value: u64, out: &mut Vec<u8>| {
+        let least = shortest_len(value);
+        let len = least + numbers.below(10 - least as usize) as u32;
+        long += usize::from(len > least);
+        push_form(len, value, out);
+    };
+    push_map(parts, push_padded, &mut out);
+    (out, long)
+}
+
+/// All before the map.
+fn render_forest(parts: &Parts) -> Vec<u8> {
     let externals = parts.external.len() / 32;
     let mut out = Vec::new();
     out.extend(FACTS.magic);
@@ -173,11 +197,10 @@ pub fn render(parts: &Parts) -> Vec<u8> {
     out.extend(parts.words.iter().flat_map(|w| w.to_le_bytes()));
     out.extend(&parts.external);
     out.extend(&parts.hashes);
-    push_map(parts, &mut out);
     out
 }
 
-fn push_map(parts: &Parts, out: &mut Vec<u8>) {
+fn push_map(parts: &Parts, mut push_count: impl FnMut(u64, &mut Vec<u8>), out: &mut Vec<u8>) {
     push_count(parts.lengths.len() as u64, out);
     let mut values = &parts.values[..];
     for (key, &n) in parts.keys.chunks_exact(4).zip(&parts.lengths) {

@@ -5,7 +5,7 @@ use vekalumist::{Layout, Lookup, Word, lookup, scan, values, walk_map};
 
 use crate::{
     beside::{self, Map},
-    input::{self, FACTS, Keys, Numbers},
+    input::{self, FACTS, Keys, Numbers, Parts},
     measure::Side,
     plain,
     table::{Row, Table},
@@ -23,12 +23,26 @@ struct Made {
 impl Made {
     fn new(entries: usize, order: Keys) -> Self {
         let parts = input::map(entries, order);
-        let keys = parts.keys.chunks_exact(4).map(|k| k.try_into().expect("four")).collect();
         let bytes = input::render(&parts);
+        Self::of(&parts, bytes, 0)
+    }
+
+    /// Keys rise, and each count has 1 to 9 bytes.
+    fn padded(entries: usize) -> Self {
+        let parts = input::map(entries, Keys::Rising);
+        let (bytes, long) = input::render_padded(&parts);
+        Self::of(&parts, bytes, long)
+    }
+
+    /// The file of some parts, whose map has so many long counts.
+    fn of(parts: &Parts, bytes: Vec<u8>, long: usize) -> Self {
+        let entries = parts.lengths.len();
+        let keys = parts.keys.chunks_exact(4).map(|k| k.try_into().expect("four")).collect();
         let layout = scan(&bytes, &FACTS, true, None).expect("own file");
         let mut table = vec![0; entries];
         let walked = walk_map(&bytes, layout.advice_map_offset, &mut table).expect("own file");
         assert_eq!((walked.entries, walked.end.0), (entries, bytes.len()));
+        assert_eq!(walked.long_counts, long, "long counts");
         Self { entries, bytes, layout, keys, table }
     }
 
@@ -123,4 +137,7 @@ pub fn rows(table: &mut Table, entries: usize) {
             lookup_row(table, &made);
         }
     }
+    let made = Made::padded(entries);
+    made.check();
+    walk_row(table, &made, "walk, padded");
 }

@@ -79,6 +79,20 @@ impl<'a, 'k> AdviceMap<'a, 'k> {
         self.walked.trailing
     }
 
+    /// How many of the map's counts are long, which have more bytes than their value's shortest form: its own, and the length of each entry.
+    ///
+    /// ```
+    /// use vekalumist::{AdviceMap, ByteOffset};
+    ///
+    /// assert_eq!(AdviceMap::walk(&[0x01], ByteOffset(0), &mut [])?.long_counts(), 0); // the count 0
+    /// assert_eq!(AdviceMap::walk(&[0x02, 0x00], ByteOffset(0), &mut [])?.long_counts(), 1); // in two bytes
+    /// # Ok::<(), vekalumist::Refusal>(())
+    /// ```
+    #[must_use]
+    pub const fn long_counts(&self) -> usize {
+        self.walked.long_counts
+    }
+
     /// A key's values; none exactly if no entry has the key.
     ///
     /// # Errors

@@ -1,6 +1,6 @@
 //! The archive's calls, one function each, and what they answer.
 
-use crate::{rows, sys, ByteOffset, Entry, Facts, Layout, NodeId, Refusal, Word};
+use crate::{rows, sys, ByteOffset, Entry, Facts, Layout, NodeId, Refusal, Scanned, Word};
 
 /// A count that was read. Later versions say more of it.
 #[derive(Clone, Copy, Debug, PartialEq, Eq, Hash)]
@@ -12,6 +12,8 @@ pub struct Count {
     pub len: usize,
     /// The place after it.
     pub next: ByteOffset,
+    /// Whether its value has no shorter form. If it has one, the count is long.
+    pub shortest: bool,
 }
 
 /// An accepted map. Later versions say more of it.
@@ -24,6 +26,8 @@ pub struct Walked {
     pub end: ByteOffset,
     /// The number of bytes that follow the map: 0 exactly if nothing does.
     pub trailing: usize,
+    /// How many of the map's counts are long: its own, and the length of each entry.
+    pub long_counts: usize,
 }
 
 /// An entry of the map, at a place of a key table.
@@ -66,6 +70,16 @@ pub fn version() -> u64 {
 ///
 /// # Errors
 /// `Short`, place: the `Byte` asked for.
+///
+/// ```
+/// use vekalumist::{read_count, ByteOffset};
+///
+/// let count = read_count(&[0x01], ByteOffset(0))?; // 0, in one byte
+/// assert_eq!((count.value, count.len, count.shortest), (0, 1, true));
+/// let count = read_count(&[0x02, 0x00], ByteOffset(0))?; // 0 again, in two: a long count
+/// assert_eq!((count.value, count.len, count.shortest), (0, 2, false));
+/// # Ok::<(), vekalumist::Refusal>(())
+/// ```
 #[inline]
 pub fn read_count(s: &[u8], at: ByteOffset) -> Result<Count, Refusal> {
     sys::read_count(s, at.0)
@@ -114,7 +128,8 @@ pub fn flags(s: &[u8]) -> Result<u8, Refusal> {
     sys::flags(s)
 }
 
-/// Where a file's sections lie. The map is not looked at: see [`walk_map`]. [`Forest::scan`](crate::Forest::scan) has its options by name.
+/// Where a file's sections lie. The map is not looked at: see [`walk_map`]. [`Forest::scan`](crate::Forest::scan) has its options by name,
+/// and [`scan_counting`] also says how many counts are long.
 ///
 /// `bound` is how many bytes a reader of the file may have to allocate: with n, a count above n / size is `Budget`.
 ///
@@ -136,6 +151,27 @@ pub fn flags(s: &[u8]) -> Result<u8, Refusal> {
 /// # Ok::<(), vekalumist::Refusal>(())
 /// ```
 pub fn scan(s: &[u8], facts: &Facts, allow_hashless: bool, bound: Option<usize>) -> Result<Layout, Refusal> {
+    scan_counting(s, facts, allow_hashless, bound).map(|scanned| scanned.layout)
+}
+
+/// As [`scan`], and beside the layout how many of the counts that it read are long. Long counts are accepted. The map's are not among them:
+/// [`walk_map`] gives those, and a file's number is the sum of the two.
+///
+/// # Errors
+/// As [`scan`].
+///
+/// ```
+/// use vekalumist::{scan, scan_counting, walk_map, Facts};
+///
+/// // no node, no root, no block data, an empty map; the first count has two bytes
+/// let file = b"MAST\x00\x00\x00\x02\x02\x00\x01\x01\x01\x01";
+/// let scanned = scan_counting(file, &Facts::STAND_IN, false, None)?;
+/// assert_eq!(scanned.long_counts, 1);
+/// assert_eq!(scanned.layout, scan(file, &Facts::STAND_IN, false, None)?);
+/// assert_eq!(walk_map(file, scanned.layout.advice_map_offset, &mut [])?.long_counts, 0);
+/// # Ok::<(), vekalumist::Refusal>(())
+/// ```
+pub fn scan_counting(s: &[u8], facts: &Facts, allow_hashless: bool, bound: Option<usize>) -> Result<Scanned, Refusal> {
     sys::scan(s, facts, allow_hashless, &rows::of_bound(bound))
 }
 
@@ -246,6 +282,20 @@ pub fn places(s: &[u8], at: ByteOffset) -> usize {
 /// # Errors
 /// `Short`, `Room` (the table is used up), `Element` (of a key), `Overflow`, `Duplicate`; place: a `Byte`. The whole
 /// table is zero then.
+///
+/// ```
+/// use vekalumist::{walk_map, ByteOffset};
+///
+/// let mut map = vec![0x06, 0x00]; // the count 1 in two bytes: it is long
+/// map.extend([0; 32]); // the key
+/// map.extend([0x04, 0x00, 0x00]); // the count 0 in three: no values
+/// let mut keys = [9; 2];
+/// let walked = walk_map(&map, ByteOffset(0), &mut keys)?;
+/// assert_eq!((walked.entries, walked.end, walked.trailing), (1, ByteOffset(37), 0));
+/// assert_eq!(walked.long_counts, 2);
+/// assert_eq!(keys, [2, 9]);
+/// # Ok::<(), vekalumist::Refusal>(())
+/// ```
 pub fn walk_map(s: &[u8], at: ByteOffset, keys: &mut [u64]) -> Result<Walked, Refusal> {
     sys::walk(s, at.0, keys)
 }

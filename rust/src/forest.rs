@@ -1,17 +1,19 @@
 //! A file and its layout together.
 
 use core::fmt;
+use core::hash::{Hash, Hasher};
 
 use crate::in_turn::in_turn;
 use crate::{
-    children, digest, digest_with_table, entry, flags, order, places, root, scan, slots, strict, AdviceMap, Children, Entry, Facts, Layout,
-    NodeId, Refusal, ScanOptions, Slot, Word,
+    children, digest, digest_with_table, entry, flags, order, places, root, scan_counting, slots, strict, AdviceMap, Children, Entry,
+    Facts, Layout, NodeId, Refusal, ScanOptions, Slot, Word,
 };
 
 /// A file and its layout together: what to begin with. [`Forest::scan`] makes it of a file's bytes, or refuses.
 ///
-/// It is two borrowed words and the layout, and is copied freely; it keeps nothing but what it was given. A scanned file's nodes all read;
-/// its roots may name no node, and its digests may be no words of elements, which is told where they are asked for.
+/// It is two borrowed words, the layout and a number, and is copied freely; it keeps nothing but what it was given and what the scan said. Two
+/// are equal if their files and their layouts are. A scanned file's nodes all read; its roots may name no node, and its digests may be no
+/// words of elements, which is told where they are asked for.
 ///
 /// ```
 /// use vekalumist::{Entry, Facts, Forest, NodeId, ScanOptions};
@@ -38,26 +40,28 @@ use crate::{
 /// assert_eq!((advice.len(), advice.trailing()), (0, 0));
 /// # Ok::<(), vekalumist::Refusal>(())
 /// ```
-#[derive(Clone, Copy, PartialEq, Eq, Hash)]
+#[derive(Clone, Copy)]
 #[must_use]
 pub struct Forest<'a> {
     bytes: &'a [u8],
     layout: Layout,
+    /// None where the layout was given, and no scan was made.
+    long_counts: Option<usize>,
 }
 
 impl<'a> Forest<'a> {
     /// Scans a file. Its map is not looked at: see [`Forest::advice`].
     ///
     /// # Errors
-    /// As [`scan`]; place: a `Byte`.
+    /// As [`scan`](crate::scan); place: a `Byte`.
     pub fn scan(bytes: &'a [u8], facts: &Facts, options: ScanOptions) -> Result<Forest<'a>, Refusal> {
-        let layout = scan(bytes, facts, options.allow_hashless, options.bound)?;
-        Ok(Forest { bytes, layout })
+        let scanned = scan_counting(bytes, facts, options.allow_hashless, options.bound)?;
+        Ok(Forest { bytes, layout: scanned.layout, long_counts: Some(scanned.long_counts) })
     }
 
     /// A file under any layout, as one that was kept from an earlier scan. Nothing is judged yet: each reader checks what it reads.
     pub const fn with_layout(bytes: &'a [u8], layout: Layout) -> Forest<'a> {
-        Forest { bytes, layout }
+        Forest { bytes, layout, long_counts: None }
     }
 
     /// The file.
@@ -70,6 +74,26 @@ impl<'a> Forest<'a> {
     #[must_use]
     pub const fn layout(&self) -> &Layout {
         &self.layout
+    }
+
+    /// How many of the four counts that the scan read are long, which have more bytes than their value's shortest form: of internal nodes,
+    /// external nodes, roots, bytes of block data. The map's are not among them: see [`AdviceMap::long_counts`]. None where the layout was
+    /// given ([`Forest::with_layout`]): its counts were not read.
+    ///
+    /// ```
+    /// use vekalumist::{Facts, Forest, ScanOptions};
+    ///
+    /// // no node, no root, no block data, an empty map; the first count has two bytes
+    /// let file = b"MAST\x00\x00\x00\x02\x02\x00\x01\x01\x01\x01";
+    /// let forest = Forest::scan(file, &Facts::STAND_IN, ScanOptions::new())?;
+    /// assert_eq!(forest.long_counts(), Some(1));
+    /// assert_eq!(forest.advice(&mut [])?.long_counts(), 0);
+    /// assert_eq!(Forest::with_layout(file, *forest.layout()).long_counts(), None);
+    /// # Ok::<(), vekalumist::Refusal>(())
+    /// ```
+    #[must_use]
+    pub const fn long_counts(&self) -> Option<usize> {
+        self.long_counts
     }
 
     /// The flags byte.
@@ -183,10 +207,26 @@ impl<'a> Forest<'a> {
     }
 }
 
-/// The layout, and of the file, which may be large, its length.
+/// A layout that was kept serves as well as a new one, so what else the scan said is not compared.
+impl PartialEq for Forest<'_> {
+    fn eq(&self, other: &Self) -> bool {
+        (self.bytes, self.layout) == (other.bytes, other.layout)
+    }
+}
+
+impl Eq for Forest<'_> {}
+
+impl Hash for Forest<'_> {
+    fn hash<H: Hasher>(&self, state: &mut H) {
+        (self.bytes, self.layout).hash(state);
+    }
+}
+
+/// The layout and the long counts, and of the file, which may be large, its length.
 impl fmt::Debug for Forest<'_> {
     fn fmt(&self, f: &mut fmt::Formatter<'_>) -> fmt::Result {
-        f.debug_struct("Forest").field("bytes", &self.bytes.len()).field("layout", &self.layout).finish()
+        let mut shown = f.debug_struct("Forest");
+        shown.field("bytes", &self.bytes.len()).field("layout", &self.layout).field("long_counts", &self.long_counts).finish()
     }
 }
 

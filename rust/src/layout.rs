@@ -117,6 +117,30 @@ impl Layout {
     }
 }
 
+/// What a scan gives of an accepted file: its layout, and how many of the counts that it read are long. A count is long if it has more bytes
+/// than its value's shortest form ([`shortest_len`](crate::shortest_len)). It is the archive's own row of thirteen numbers, and taken as it
+/// lies. Later versions have more fields. [`scan_counting`](crate::scan_counting) gives it.
+///
+/// ```
+/// use vekalumist::{scan_counting, Facts};
+///
+/// // no node, no root, no block data; the counts of the last two have two bytes
+/// let file = b"MAST\x00\x00\x00\x02\x01\x01\x02\x00\x02\x00\x01";
+/// let scanned = scan_counting(file, &Facts::STAND_IN, false, None)?;
+/// assert_eq!((scanned.layout.roots_count, scanned.long_counts), (0, 2));
+/// # Ok::<(), vekalumist::Refusal>(())
+/// ```
+#[derive(Clone, Copy, Debug, Default, PartialEq, Eq, Hash)]
+#[non_exhaustive]
+#[repr(C)]
+pub struct Scanned {
+    /// Where the sections lie.
+    pub layout: Layout,
+    /// How many of its four counts are long, 0 to 4: internal nodes, external nodes, roots, bytes of block data. The map's are not among
+    /// them: see [`Walked::long_counts`](crate::Walked::long_counts).
+    pub long_counts: usize,
+}
+
 /// Where row `index` of a section lies.
 const fn row(section: ByteOffset, size: usize, index: usize) -> Option<ByteOffset> {
     let Some(rows) = size.checked_mul(index) else { return None };

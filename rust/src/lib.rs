@@ -74,7 +74,7 @@ pub use calls::*;
 pub use entry::{Children, Entry};
 pub use facts::{Facts, ScanOptions};
 pub use forest::{Forest, Nodes, Roots, SlotTable};
-pub use layout::{HashSection, Layout};
+pub use layout::{HashSection, Layout, Scanned};
 pub use refusal::{Kind, Place, Refusal};
 pub use units::{ByteOffset, NodeId, ParseError, Slot, Word};
 #[cfg(feature = "std")]

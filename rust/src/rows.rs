@@ -10,8 +10,8 @@ pub(crate) fn unknown(number: u64) -> Refusal {
 }
 
 #[inline]
-pub(crate) fn count([value, len, next]: [u64; 3]) -> Count {
-    Count { value, len: len as usize, next: ByteOffset(next as usize) }
+pub(crate) fn count([value, len, next, shortest]: [u64; 4]) -> Count {
+    Count { value, len: len as usize, next: ByteOffset(next as usize), shortest: shortest != 0 }
 }
 
 #[inline]
@@ -46,8 +46,8 @@ pub(crate) fn of_bound(bound: Option<usize>) -> [u64; 2] {
     bound.map_or([0, 0], |bytes| [1, bytes as u64])
 }
 
-pub(crate) fn walked([entries, end, trailing]: [u64; 3]) -> Walked {
-    Walked { entries: entries as usize, end: ByteOffset(end as usize), trailing: trailing as usize }
+pub(crate) fn walked([entries, end, trailing, long_counts]: [u64; 4]) -> Walked {
+    Walked { entries: entries as usize, end: ByteOffset(end as usize), trailing: trailing as usize, long_counts: long_counts as usize }
 }
 
 #[inline]

@@ -5,13 +5,15 @@ use core::mem::{self, offset_of, size_of, MaybeUninit};
 use core::{array, ptr};
 
 use crate::rows::{self, places};
-use crate::{ByteOffset, Count, Entry, Facts, HashSection, Kind, Layout, Lookup, MapEntry, NodeId, Parts, Place, Refusal, Walked, Word};
+use crate::{
+    ByteOffset, Count, Entry, Facts, HashSection, Kind, Layout, Lookup, MapEntry, NodeId, Parts, Place, Refusal, Scanned, Walked, Word,
+};
 
 // A slice crosses as a pointer, which is never null, and its number of elements; a row of numbers and a single number as a pointer. The
 // return is 0 and the answer is stored, or it is a refusal's number and its place is.
 extern "C" {
     fn veka_version() -> u64;
-    fn veka_raw_read_count(s: *const u8, s_len: usize, at: usize, count: *mut [u64; 3], place: *mut u64) -> u64;
+    fn veka_raw_read_count(s: *const u8, s_len: usize, at: usize, count: *mut [u64; 4], place: *mut u64) -> u64;
     fn veka_shortest_len(v: u64) -> u64;
     fn veka_raw_write_count(out: *mut u8, out_len: usize, at: usize, v: u64, next: *mut u64, place: *mut u64) -> u64;
     fn veka_decode_entry(word: u64, entry: *mut [u64; 3], place: *mut u64) -> u64;
@@ -24,7 +26,7 @@ extern "C" {
         max_nodes: usize,
         allow: bool,
         bound: *const [u64; 2],
-        layout: *mut Layout,
+        scanned: *mut Scanned,
         place: *mut u64,
     ) -> u64;
     fn veka_raw_root(s: *const u8, s_len: usize, layout: *const Layout, index: usize, root: *mut u32, place: *mut u64) -> u64;
@@ -54,7 +56,7 @@ extern "C" {
         place: *mut u64,
     ) -> u64;
     fn veka_raw_places(s: *const u8, s_len: usize, at: usize) -> u64;
-    fn veka_raw_walk(s: *const u8, s_len: usize, at: usize, keys: *mut u64, keys_len: usize, walked: *mut [u64; 3], place: *mut u64)
+    fn veka_raw_walk(s: *const u8, s_len: usize, at: usize, keys: *mut u64, keys_len: usize, walked: *mut [u64; 4], place: *mut u64)
         -> u64;
     fn veka_raw_key(
         s: *const u8,
@@ -123,9 +125,10 @@ extern "C" {
     ) -> u64;
 }
 
-// A layout crosses as it lies: the row's twelve numbers in their order, of which any bits are one.
+// A layout crosses as it lies: the row's twelve numbers in their order, of which any bits are one. What the scan gives has one more.
 const _: () = assert!(size_of::<Layout>() == 12 * 8 && size_of::<HashSection>() == 2 * 8 && size_of::<ByteOffset>() == 8);
 const _: () = assert!(offset_of!(Layout, node_hashes) == 9 * 8 && offset_of!(Layout, advice_map_offset) == 11 * 8);
+const _: () = assert!(size_of::<Scanned>() == 13 * 8 && offset_of!(Scanned, long_counts) == 12 * 8);
 
 /// What an answer may be stored into.
 ///
@@ -145,7 +148,7 @@ unsafe trait Row: Copy {
 unsafe impl Row for u8 {}
 unsafe impl Row for u32 {}
 unsafe impl Row for u64 {}
-unsafe impl Row for Layout {}
+unsafe impl Row for Scanned {}
 
 /// The numbers of a row were stored one by one, and are read one by one: a compiler would read two at once, and such a read waits until both
 /// stores are done (10 ns and more).
@@ -236,7 +239,7 @@ pub(crate) fn flags(s: &[u8]) -> Result<u8, Refusal> {
     unsafe { told(places::bytes, |row, place| veka_raw_flags(s.as_ptr(), s.len(), row, place)) }
 }
 
-pub(crate) fn scan(s: &[u8], facts: &Facts, allow: bool, bound: &[u64; 2]) -> Result<Layout, Refusal> {
+pub(crate) fn scan(s: &[u8], facts: &Facts, allow: bool, bound: &[u64; 2]) -> Result<Scanned, Refusal> {
     let marks = rows::marks(facts);
     unsafe { told(places::bytes, |row, place| veka_raw_scan(s.as_ptr(), s.len(), &marks, facts.max_nodes, allow, bound, row, place)) }
 }
@@ -374,9 +377,33 @@ mod tests {
             assert_eq!((row, place), ([3, 5, 0], 77));
             assert_eq!(veka_decode_entry(9 << 60, &mut row, &mut place), 9);
             assert_eq!((row, place), ([3, 5, 0], 0));
+            let mut count = [77; 4];
             place = 77;
-            assert_eq!(veka_raw_read_count([1].as_ptr(), 1, 5, &mut row, &mut place), 1);
-            assert_eq!((row, place), ([3, 5, 0], 5));
+            assert_eq!(veka_raw_read_count([2, 0].as_ptr(), 2, 0, &mut count, &mut place), 0);
+            assert_eq!((count, place), ([0, 2, 2, 0], 77));
+            assert_eq!(veka_raw_read_count([2, 0].as_ptr(), 2, 5, &mut count, &mut place), 1);
+            assert_eq!((count, place), ([0, 2, 2, 0], 5));
+        }
+    }
+
+    // The row of a refused scan or walk is as it was, the number of long counts too.
+    #[test]
+    fn a_refusal_stores_no_number_of_long_counts() {
+        let (marks, most) = (rows::marks(&Facts::STAND_IN), Facts::STAND_IN.max_nodes);
+        let file = b"MAST\x00\x00\x00\x02\x02\x00\x01\x01\x02\x00\x04\x00\x00"; // two of the scan's are long, and the map's own
+        let marked = Scanned { layout: Layout { node_count: 77, ..Layout::default() }, long_counts: 77 };
+        let (mut scanned, mut walked, mut place) = (marked, [77; 4], 77);
+        unsafe {
+            for len in 0..14 {
+                assert_ne!(veka_raw_scan(file.as_ptr(), len, &marks, most, false, &[0, 0], &mut scanned, &mut place), 0);
+                assert_eq!(scanned, marked);
+            }
+            assert_eq!(veka_raw_walk(file.as_ptr(), 16, 14, [].as_mut_ptr(), 0, &mut walked, &mut place), 1);
+            assert_eq!((walked, place), ([77; 4], 14));
+            assert_eq!(veka_raw_scan(file.as_ptr(), 14, &marks, most, false, &[0, 0], &mut scanned, &mut place), 0);
+            assert_eq!((scanned.layout.advice_map_offset, scanned.long_counts), (ByteOffset(14), 2));
+            assert_eq!(veka_raw_walk(file.as_ptr(), 17, 14, [].as_mut_ptr(), 0, &mut walked, &mut place), 0);
+            assert_eq!((walked, place), ([0, 17, 0, 1], 14));
         }
     }
 

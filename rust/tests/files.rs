@@ -159,10 +159,10 @@ fn counts_of_the_worked_examples() {
         assert_eq!(&out[2..2 + bytes.len()], bytes, "{value}");
         let next = ByteOffset(2 + bytes.len());
         let count = read_count(&out, ByteOffset(2)).unwrap();
-        assert_eq!((count.value, count.len, count.next), (value, bytes.len(), next));
+        assert_eq!((count.value, count.len, count.next, count.shortest), (value, bytes.len(), next, true));
     }
     let long = read_count(&[2, 0], ByteOffset(0)).unwrap();
-    assert_eq!((long.value, long.len, long.next), (0, 2, ByteOffset(2)));
+    assert_eq!((long.value, long.len, long.next, long.shortest), (0, 2, ByteOffset(2), false));
 }
 
 #[test]

@@ -1,16 +1,17 @@
 /* Each function that takes a slice, called with null and length 0 in each slice and with a real pointer of length 0: number, place, answer and
- * lent memory are the same. Compiled as C11 and as C++17. */
+ * lent memory are the same. And that the rows lie as the archive stores them, with what it says of long counts. Compiled as C11 and as C++17. */
+#include <assert.h>
 #include <stdio.h>
 #include <stdlib.h>
 #include <string.h>
 #include "vekalumist.h"
 
 static const veka_facts_t facts = {{'M', 'A', 'S', 'T'}, {0, 0, 2}, 2, 0xFC, (1 << 30) - 1};
-static unsigned calls, slices, wrong;
+static unsigned calls, slices, longs, wrong;
 
 /* what one call leaves: everything that it may write, marked before */
 typedef struct {
-    uint64_t number, place, answer[12], out[4];
+    uint64_t number, place, answer[13], out[4];
 } after_t;
 
 static after_t marked(void) {
@@ -60,7 +61,7 @@ static void over_a_file(void) {
     uint32_t slots[2];
     TRY("read_count", 1, uint8_t, veka_read_count(none, 0, 0, INTO(veka_count_t), &after->place));
     TRY("flags", 1, uint8_t, veka_flags(none, 0, INTO(uint8_t), &after->place));
-    TRY("scan", 1, uint8_t, veka_scan(none, 0, &facts, true, veka_no_bound(), INTO(veka_layout_t), &after->place));
+    TRY("scan", 1, uint8_t, veka_scan(none, 0, &facts, true, veka_no_bound(), INTO(veka_scanned_t), &after->place));
     for (int k = 0; k < 2; k++) {
         const veka_layout_t *l = layouts[k];
         TRY("root", 1, uint8_t, veka_root(none, 0, l, 0, INTO(uint32_t), &after->place));
@@ -131,7 +132,8 @@ static void whole(void) {
     uint64_t order[2], table[2], size = 0, place = 0;
     uint8_t file[200];
     veka_parts_t p;
-    veka_layout_t layout;
+    veka_scanned_t scanned;
+    const veka_layout_t *layout = &scanned.layout;
     veka_walked_t walked;
     veka_map_entry_t entry;
     memset(&p, 0, sizeof p);
@@ -143,14 +145,70 @@ static void whole(void) {
     veka_key_order(keys, 2, order);
     p.order = order, p.order_len = 2;
     if (order[0] != 1 || order[1] != 0 || veka_write(&facts, &p, file, sizeof file, &size, &place) != VEKA_OK ||
-        veka_scan(file, size, &facts, true, veka_bound(8), &layout, &place) != VEKA_OK || layout.has_node_hashes ||
-        veka_places(file, size, layout.advice_map_offset) != 2 ||
-        veka_walk(file, size, layout.advice_map_offset, table, 2, &walked, &place) != VEKA_OK || walked.entries != 2 || walked.trailing ||
+        veka_scan(file, size, &facts, true, veka_bound(8), &scanned, &place) != VEKA_OK || layout->has_node_hashes || scanned.long_counts ||
+        veka_places(file, size, layout->advice_map_offset) != 2 ||
+        veka_walk(file, size, layout->advice_map_offset, table, 2, &walked, &place) != VEKA_OK || walked.entries != 2 || walked.trailing ||
+        walked.long_counts ||
         veka_map_entry(file, size, table, 2, 1, &entry, &place) != VEKA_OK || entry.key.n[0] != 9 || entry.len != 1 ||
         file[entry.values] != 70 || veka_version() != VEKA_VERSION) {
         printf("a whole file: refusal at %d\n", (int)place);
         wrong++;
     }
+}
+
+/* A row is N numbers without padding, the last of them at its end. */
+#define ROW(T, N, last) static_assert(sizeof(T) == 8 * (N) && offsetof(T, last) == 8 * ((N)-1), #T " is " #N " numbers")
+ROW(veka_layout_t, 12, advice_map_offset);
+ROW(veka_scanned_t, 13, long_counts);
+ROW(veka_count_t, 4, shortest);
+ROW(veka_walked_t, 4, long_counts);
+
+/* What one file says of its long counts: SCAN and WALK, or that it is refused with this number, and the rows are as they were. */
+static void told_long(const char *file, size_t len, uint64_t refusal, uint64_t scan, uint64_t walk) {
+    const uint8_t *s = (const uint8_t *)file;
+    uint64_t number, place = 77, keys[1];
+    veka_scanned_t scanned, marked_scan;
+    veka_walked_t walked, marked_walk;
+    memset(&marked_scan, 0xA5, sizeof marked_scan);
+    memset(&marked_walk, 0xA5, sizeof marked_walk);
+    scanned = marked_scan, walked = marked_walk;
+    number = veka_scan(s, len, &facts, false, veka_no_bound(), &scanned, &place);
+    if (number != VEKA_OK ? memcmp(&scanned, &marked_scan, sizeof scanned) != 0 : scanned.long_counts != scan)
+        wrong++, printf("long counts of %u bytes: the scan differs\n", (unsigned)len);
+    if (number == VEKA_OK) {
+        number = veka_walk(s, len, scanned.layout.advice_map_offset, keys, 1, &walked, &place);
+        if (number != VEKA_OK ? memcmp(&walked, &marked_walk, sizeof walked) != 0 : walked.long_counts != walk)
+            wrong++, printf("long counts of %u bytes: the walk differs\n", (unsigned)len);
+    }
+    if (number != refusal)
+        wrong++, printf("long counts of %u bytes: %s\n", (unsigned)len, veka_refusal_name(number));
+    longs++;
+}
+
+/* Five counts of 0, for internal and external nodes, roots, block data and the map; then a map of one entry without values. */
+static void long_counts(void) {
+    static const uint8_t two[2] = {2, 0};
+    veka_count_t count;
+    uint64_t place = 77;
+#define KEY "\0\0\0\0\0\0\0\0\0\0\0\0\0\0\0\0\0\0\0\0\0\0\0\0\0\0\0\0\0\0\0\0"
+#define TOLD(counts, refusal, scan, walk) told_long("MAST\0\0\0\2" counts, 8 + sizeof(counts) - 1, refusal, scan, walk)
+    TOLD("\1\1\1\1\1", VEKA_OK, 0, 0);
+    TOLD("\2\0\1\1\1\1", VEKA_OK, 1, 0);
+    TOLD("\1\2\0\1\1\1", VEKA_OK, 1, 0);
+    TOLD("\1\1\2\0\1\1", VEKA_OK, 1, 0);
+    TOLD("\1\1\1\2\0\1", VEKA_OK, 1, 0);
+    TOLD("\1\1\1\1\2\0", VEKA_OK, 0, 1);
+    TOLD("\0\0\0\0\0\0\0\0\0\4\0\0\200\0\0\0\0\0\0\0\2\0\0\0\0\0\0\0\0\0\0", VEKA_OK, 4, 1);
+    TOLD("\1\1\1\1\3" KEY "\1", VEKA_OK, 0, 0);
+    TOLD("\1\1\1\1\3" KEY "\2\0", VEKA_OK, 0, 1);
+    TOLD("\1\1\1\1\6\0" KEY "\0\0\0\0\0\0\0\0\0", VEKA_OK, 0, 2);
+    TOLD("\1\1\1\1\6\0" KEY "\2", VEKA_SHORT, 0, 0);
+    TOLD("\2\0\2\0\2\0\2", VEKA_SHORT, 0, 0);
+    TOLD("\2\0\2\0\2\0\2\0\2", VEKA_SHORT, 4, 0); /* the scan accepts it, and the walk does not */
+    TOLD("\6\0\2\0\2\0\2\0\2\0", VEKA_SHORT, 0, 0); /* a node that is not there */
+    if (veka_read_count(two, 2, 0, &count, &place) != VEKA_OK || count.value != 0 || count.len != 2 || count.next != 2 || count.shortest != 0 ||
+        veka_read_count(two, 2, 1, &count, &place) != VEKA_SHORT || count.len != 2 || place != 1)
+        wrong++, printf("the count of two bytes differs\n");
 }
 
 static void names(void) {
@@ -172,6 +230,7 @@ int main(void) {
     over_a_file();
     parts();
     whole();
-    printf("%u calls, %u slices, %u differ\n", calls, slices, wrong);
+    long_counts();
+    printf("%u calls, %u slices, %u files with their long counts, %u differ\n", calls, slices, longs, wrong);
     return wrong ? EXIT_FAILURE : EXIT_SUCCESS;
 }

@@ -12,14 +12,14 @@ compiles() {
 #include "vekalumist.h"
 uint64_t call(const uint8_t *s, size_t n, veka_facts_t facts, veka_bound_t bound, veka_layout_t layout, veka_entry_t entry,
               veka_digest_t digest, veka_key_t key, veka_walked_t walked, veka_map_entry_t map_entry, veka_lookup_t looked, veka_part_t part,
-              veka_parts_t parts, veka_marks_t marks, const uint64_t *keys, const uint32_t *table, uint8_t *out, uint64_t *size,
-              uint64_t *place);
+              veka_parts_t parts, veka_marks_t marks, veka_scanned_t scanned, const uint64_t *keys, const uint32_t *table, uint8_t *out,
+              uint64_t *size, uint64_t *place);
 uint64_t call(const uint8_t *s, size_t n, veka_facts_t facts, veka_bound_t bound, veka_layout_t layout, veka_entry_t entry,
               veka_digest_t digest, veka_key_t key, veka_walked_t walked, veka_map_entry_t map_entry, veka_lookup_t looked, veka_part_t part,
-              veka_parts_t parts, veka_marks_t marks, const uint64_t *keys, const uint32_t *table, uint8_t *out, uint64_t *size,
-              uint64_t *place) {
+              veka_parts_t parts, veka_marks_t marks, veka_scanned_t scanned, const uint64_t *keys, const uint32_t *table, uint8_t *out,
+              uint64_t *size, uint64_t *place) {
     (void)s, (void)n, (void)facts, (void)bound, (void)layout, (void)entry, (void)digest, (void)key, (void)walked, (void)map_entry;
-    (void)looked, (void)part, (void)parts, (void)marks, (void)keys, (void)table, (void)out, (void)size, (void)place;
+    (void)looked, (void)part, (void)parts, (void)marks, (void)scanned, (void)keys, (void)table, (void)out, (void)size, (void)place;
     return $1;
 }
 CALL
@@ -50,10 +50,13 @@ expect no 'veka_lookup(s, n, keys, n, n, &looked, &key, place)'
 expect no 'veka_lookup(keys, n, s, n, n, &key, &looked, place)'
 expect yes 'veka_values(s, n, keys, n, n, &key, &part, place)'
 expect no 'veka_values(s, n, keys, n, n, &key, &looked, place)'
-expect yes 'veka_scan(s, n, &facts, true, bound, &layout, place)'
-expect no 'veka_scan(s, n, &facts, bound, true, &layout, place)'
-expect no 'veka_scan(s, n, &marks, true, bound, &layout, place)'
-expect no 'veka_scan(s, n, &layout, true, bound, &facts, place)'
+expect yes 'veka_scan(s, n, &facts, true, bound, &scanned, place)'
+expect no 'veka_scan(s, n, &facts, bound, true, &scanned, place)'
+expect no 'veka_scan(s, n, &marks, true, bound, &scanned, place)'
+expect no 'veka_scan(s, n, &scanned, true, bound, &facts, place)'
+expect no 'veka_scan(s, n, &facts, true, bound, &layout, place)' # as it was before 0.4.0: a layout has no room for the long counts
+expect yes 'veka_entry(s, n, &scanned.layout, 0, &entry, place)'
+expect no 'veka_entry(s, n, &scanned, 0, &entry, place)'
 expect yes 'veka_digest_with_table(s, n, &layout, 0, table, n, &digest, place)'
 expect no 'veka_digest_with_table(s, n, &layout, 0, keys, n, &digest, place)'
 expect yes 'veka_walk(s, n, 0, size, 1, &walked, place)'

@@ -39,6 +39,12 @@ def read_count(data, at):
     return int.from_bytes(data[at:at + length], "little") >> min(length, 8), at + length
 
 
+def longs(*counts):
+    """How many of some counts, each by its value and the places where it begins and ends, have more bytes than a shorter form would: one of n
+    bytes holds 7 n bits, and one of nine 64."""
+    return sum(any(value < 2**(7 * n) for n in range(1, end - at)) for value, at, end in counts)
+
+
 def read_entry(word, place):
     """An entry's kind, and its numbers: two of Join and Split, one of Loop, Block, Call and SysCall, none of the others."""
     tag, payload = word >> 60, word % 2**60
@@ -91,13 +97,16 @@ def scan(data, options):
               "roots_count": roots, "roots_offset": roots_at, "basic_block_offset": block_at, "basic_block_len": block_length,
               "node_entry_offset": entries_at, "external_digest_offset": digests_at,
               "node_hash_offset": None if hashless else digests_at + 32 * external, "advice_map_offset": block_at + sections}
-    return SimpleNamespace(data=data, fields=fields, words=words, entries=entries, **fields)
+    long_counts = longs((internal, 8, external_count_at), (external, external_count_at, roots_count_at), (roots, roots_count_at, roots_at),
+                        (block_length, roots_at + 4 * roots, block_at))
+    return SimpleNamespace(data=data, fields=fields, words=words, entries=entries, long_counts=long_counts, **fields)
 
 
 def walk(forest):
-    """The advice map's rows, keys rising, and its end."""
+    """The advice map's rows, keys rising, its end, and how many of its counts are long."""
     data, rows = forest.data, {}
     count, at = read_count(data, forest.advice_map_offset)
+    long_counts = longs((count, forest.advice_map_offset, at))
     for _ in range(count):
         refuse(at + 32 > len(data), "SHORT", at)
         key = struct.unpack_from("<4Q", data, at)
@@ -107,8 +116,9 @@ def walk(forest):
         refuse(8 * length > len(data) - values_at, "SHORT", values_at)
         refuse(key in rows, "DUPLICATE", at)
         rows[key] = Row(key, at, length, values_at)
+        long_counts += longs((length, at + 32, values_at))
         at = values_at + 8 * length
-    return sorted(rows.values()), at
+    return sorted(rows.values()), at, long_counts
 
 
 def lookup(rows, key):
@@ -199,12 +209,12 @@ def check_text(row):
     return row["check"] + " " + ("ok" if row["ok"] else refused_text(row) if "refused" in row else f"found {row['bytes']} at {row['at']}")
 
 
-def layout_text(f, end):
+def layout_text(f, end, scan_longs, map_longs):
     hashes = "none" if f["node_hash_offset"] is None else f"at {f['node_hash_offset']}"
     return (f"nodes {f['node_count']} internal {f['internal_node_count']} external {f['external_node_count']}\n"
             f"roots {f['roots_count']} at {f['roots_offset']}\nblocks {f['basic_block_len']} at {f['basic_block_offset']}\n"
             f"entries at {f['node_entry_offset']}\nexternal digests at {f['external_digest_offset']}\nnode hashes {hashes}\n"
-            f"advice at {f['advice_map_offset']} end {end}\n")
+            f"advice at {f['advice_map_offset']} end {end}\nlong counts {scan_longs + map_longs} scan {scan_longs} map {map_longs}\n")
 
 
 def hex_key(key):
@@ -227,10 +237,11 @@ def accepted(command, data, options, key):
     """The text and the members for a file that is not refused as a whole."""
     forest = scan(data, options)
     if command in ("layout", "map", "lookup"):
-        rows, end = walk(forest)
+        rows, end, map_longs = walk(forest)
     if command == "layout":
-        more = {"advice_map_entries": len(rows), "advice_map_end": end, "trailing": len(data) - end}
-        return layout_text(forest.fields, end), forest.fields | more
+        more = {"advice_map_entries": len(rows), "advice_map_end": end, "trailing": len(data) - end,
+                "long_counts": forest.long_counts + map_longs, "scan_long_counts": forest.long_counts, "advice_map_long_counts": map_longs}
+        return layout_text(forest.fields, end, forest.long_counts, map_longs), forest.fields | more
     if command == "lookup":
         return lookup_answer(data, rows, key)
     if command == "map":

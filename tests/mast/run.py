@@ -2,7 +2,7 @@
 """run.py MAST [SMALL]: holds the program MAST against naive.py: samples, made and damaged files, options, streams, help, a file of 100 MB.
 
 SMALL is a command of one word that runs the small program on standard input; where it is given, `MAST layout` must write what it writes, byte
-for byte. The last line is `N of N agree`, with status 0 where all do.
+for byte, and after a page one line more, on long counts. The last line is `N of N agree`, with status 0 where all do.
 """
 import json, os, pathlib, random, re, shlex, struct, subprocess, sys, tempfile, time
 from array import array
@@ -75,11 +75,12 @@ def hold_files(command, files, options=Options(), key=ONE):
 
 
 def hold_small(files, facts=STAND_IN):
-    """The same standard output as the small program's, which takes at most 65,536 bytes."""
+    """The same standard output as the small program's, which takes at most 65,536 bytes; after a page there is one line more."""
     for name, data in files if SMALL else []:
         wanted = run([] if facts is STAND_IN else facts_word(facts).split(","), data, SMALL)[0]
+        more = rb"" if wanted.startswith(b"refused ") else rb"long counts \d+ scan \d+ map \d+\n"
         got = run(["layout", *words_of(Options(facts)), name])[0]
-        hold(f"mast layout beside the small program: {data.hex()[:4000]}", got == wanted, wanted, got)
+        hold(f"mast layout beside the small program: {data.hex()[:4000]}", re.fullmatch(re.escape(wanted) + more, got), wanted, got)
 
 
 def in_folder(files):
@@ -176,8 +177,14 @@ def damaged(dice, data):
 
 def try_samples(samples):
     paper = ("nodes 3 internal 2 external 1\nroots 1 at 11\nblocks 1 at 16\nentries at 17\nexternal digests at 41\nnode hashes none\n"
-             "advice at 73 end 74\n")
+             "advice at 73 end 74\nlong counts 0 scan 0 map 0\n")
     hold_run(["layout", "p10.mast"], paper.encode(), "", 0)
+    for lengths in ((2, 1, 1, 1, 1), (1, 2, 1, 1, 1), (1, 1, 9, 1, 1), (1, 1, 1, 8, 1), (1, 1, 1, 1, 9), (9, 2, 3, 4, 5)):
+        in_folder([("padded.mast", HEAD + b"".join(count(0, length) for length in lengths))])  # five times the count 0
+        scan, advice = sum(length > 1 for length in lengths[:4]), int(lengths[4] > 1)
+        got = run(["layout", "padded.mast"])
+        wanted = f"long counts {scan + advice} scan {scan} map {advice}"
+        hold(f"mast layout, counts of {lengths} bytes", got[0].decode().splitlines()[7:] == [wanted] and got[1:] == ("", 0), wanted, got)
     for file in samples:
         for command in COMMANDS:
             for key in (ONE, (0, 2, 0, 0), (5, 5, 5, 5)) if command == "lookup" else (ONE,):
@@ -380,7 +387,8 @@ def try_big_file(samples):
         file.writelines([start, struct.pack("<2I", nodes - 1, 0), count(block_length), bytes(block_length),
                          array("Q", (naive.written(*entry(i)) for i in range(nodes))), array("Q", range(4 * nodes)), advice])
     page = (f"nodes {nodes} internal {nodes - external} external {external}\nroots 2 at {len(start)}\nblocks {block_length} at {block_at}\n"
-            f"entries at {entries_at}\nexternal digests at {digests_at}\nnode hashes at {digests_at + 32 * external}\nadvice at {map_at} end {end}\n")
+            f"entries at {entries_at}\nexternal digests at {digests_at}\nnode hashes at {digests_at + 32 * external}\nadvice at {map_at} end {end}\n"
+            "long counts 0 scan 0 map 0\n")
     began = time.monotonic()
     hold_run(["layout", "big.mast"], page.encode(), "", 0)
     print(f"mast layout took {time.monotonic() - began:.2f} s on {end:,} bytes")

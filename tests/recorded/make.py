@@ -67,12 +67,12 @@ CALLS = ("veka_read_count veka_shortest_len veka_decode_entry veka_encode_entry 
          "veka_order veka_strict veka_digest veka_digest_with_table veka_slots veka_write_count veka_walk veka_lookup veka_values "
          "veka_write veka_flags veka_places veka_key veka_map_entry veka_version").split()
 # how many places the answer of each call has; None: it returns a number and cannot refuse
-ANSWERS = dict(zip(CALLS, (3, None, 3, 1, 12, 1, 3, 0, 0, 0, 4, 4, 2, 1, 3, 4, 3, 1, 1, None, 4, 6, None)))
+ANSWERS = dict(zip(CALLS, (4, None, 3, 1, 13, 1, 3, 0, 0, 0, 4, 4, 2, 1, 4, 4, 3, 1, 1, None, 4, 6, None)))
 PLACE = 900  # the place before a call
-LINKED = 300  # what veka_version says
+LINKED = 400  # what veka_version says
 rng = random.Random()
 
-# ---- document 01: bytes and numbers to an answer, which is 0 and values, or a refusal's number and its place
+# ---- document 01, and request 2 on long counts: bytes and numbers to an answer, which is 0 and values, or a refusal's number and its place
 
 
 def le(b):
@@ -96,6 +96,17 @@ def read_count(s, at):
 
 def shortest_len(v):
     return next((size for size in range(1, 9) if v < 2**(7 * size)), 9)
+
+
+def is_long(value, size):
+    """More bytes than the shortest form."""
+    return size > shortest_len(value)
+
+
+def count_at(s, at):
+    """The count, and 1 if it is the shortest."""
+    number, *said = read_count(s, at)
+    return [number, *said] if number else [0, *said, int(not is_long(*said[:2]))]
 
 
 def form(v, size):
@@ -169,7 +180,8 @@ def count_missing(s, at):
 
 def scan_rules(s, facts, allow, bound):
     """The scan's table, a line at a time: name, number, place, and by how much the rule is broken, which
-    is 0 or less if it is not. Past a broken rule nothing is asked. The last line is the layout."""
+    is 0 or less if it is not. Past a broken rule nothing is asked. The last line is the layout, and how many
+    counts are long."""
     magic, version, (mask, reserved, maximum) = facts[:4], facts[4:7], facts[7:]
 
     def beyond(size, count):
@@ -217,8 +229,10 @@ def scan_rules(s, facts, allow, bound):
     yield "EXTERNALS", EXTERNALS, external_at, abs(counted - external)
     digests_at = entries_at + 8 * nodes
     hashes_at = digests_at + 32 * external
+    long = (is_long(internal, external_at - 8) + is_long(external, roots_at - external_at)
+            + is_long(roots, rows_at - roots_at) + is_long(length, data_at - length_at))
     yield None, 0, [nodes, internal, external, roots, rows_at, data_at, length, entries_at, digests_at,
-                    *((0, 0) if hashless else (1, hashes_at)), hashes_at + hashes], 1
+                    *((0, 0) if hashless else (1, hashes_at)), hashes_at + hashes, long], 1
 
 
 def looked_at(s, args):
@@ -368,12 +382,12 @@ def map_values(s, length_at):
 
 
 def walk(s, at, room):
-    """The key offsets by rising keys and the end; or the number of a refusal and its place."""
+    """The key offsets by rising keys, the end, and how many counts are long; or the number of a refusal and its place."""
     read = read_count(s, at)
     if read[0]:
         return read
-    _, n, _, at = read
-    seen = {}
+    _, n, size, at = read
+    long, seen = is_long(n, size), {}
     for _ in range(n):
         if len(seen) == room:
             return [ROOM, at]
@@ -387,8 +401,9 @@ def walk(s, at, room):
         if key in seen:
             return [DUPLICATE, at]
         seen[key] = at
+        long += is_long(values[1], values[0] - at - 32)
         at = values[0] + 8 * values[1]
-    return [0, [seen[key] for key in sorted(seen)], at]
+    return [0, [seen[key] for key in sorted(seen)], at, int(long)]
 
 
 def walk_map(s, at, table):
@@ -396,8 +411,8 @@ def walk_map(s, at, table):
     number, *rest = walk(s, at, len(table))
     if number:
         return [number, *rest], [0] * len(table)
-    keys, end = rest
-    return [0, len(keys), end, len(s) - end], keys + table[len(keys):]
+    keys, end, long = rest
+    return [0, len(keys), end, len(s) - end, long], keys + table[len(keys):]
 
 
 def lookup(s, args, table):
@@ -539,18 +554,25 @@ def write(facts, parts, out):
     return [0, len(written)], written + out[len(written):]
 
 
+def counts_of(s):
+    """The four counts of a file that the scan accepts."""
+    counts = [read_count(s, 8)]
+    counts += [read_count(s, counts[0][3])]
+    counts += [read_count(s, counts[1][3])]
+    _, roots, _, roots_at = counts[2]
+    return counts + [read_count(s, roots_at + 4 * roots)]
+
+
 def file_parts(s, facts):
     """The parts of a file that scan and walk accept, its map's end, and its counts' lengths beside the shortest."""
-    number, nodes, internal, external, roots, roots_at, blocks_at, block, entries_at, digests_at, hashed, hashes_at, at = (
+    number, nodes, internal, external, roots, roots_at, blocks_at, block, entries_at, digests_at, hashed, hashes_at, at, _ = (
         scan_layout(s, *facts, 1, 0, 0))
     assert number == 0
     end_of_digests = hashes_at if hashed else at
     parts = [s[4], [le(s[k:k + 4]) for k in range(roots_at, roots_at + 4 * roots, 4)], s[blocks_at:blocks_at + block],
              [le(s[k:k + 8]) for k in range(entries_at, entries_at + 8 * nodes, 8)], s[digests_at:end_of_digests],
              s[end_of_digests:at], [], [], []]
-    counts = [read_count(s, 8)]
-    counts += [read_count(s, counts[0][3])]
-    counts += [read_count(s, counts[1][3]), read_count(s, roots_at + 4 * roots), read_count(s, at)]
+    counts = [*counts_of(s), read_count(s, at)]
     walked = walk(s, at, TOP)
     _, n, _, at = counts[4]
     for _ in range(n):
@@ -590,7 +612,7 @@ def leaves(answer):
 
 
 DOCUMENT = {
-    "veka_read_count": leaves(read_count),
+    "veka_read_count": leaves(count_at),
     "veka_shortest_len": leaves(lambda s, v: [0, shortest_len(v)]),
     "veka_decode_entry": leaves(lambda s, word: decode(word, 0)),
     "veka_encode_entry": leaves(lambda s, *entry: encode_entry(*entry)),
@@ -620,8 +642,23 @@ assert list(DOCUMENT) == CALLS
 
 
 def modelled(model):
+    read = []  # the number and the bytes of each count that the model reads
+    plain_count = model.count
+
+    def noted(s, at, *reader):
+        value, end = plain_count(s, at, *reader)
+        read.append((value, end - at))
+        return value, end
+
+    model.count = noted
+
+    def long_ones():
+        """How many were long, by the bits of their numbers: the model itself has no such answer."""
+        return sum(size > (9 if value >= 2**56 else max((value.bit_length() + 6) // 7, 1)) for value, size in read)
+
     def refusing(f):
         def answer(s, *args):
+            read.clear()
             try:
                 return f(bytes(s), *args)
             except model.Refused as r:
@@ -633,7 +670,7 @@ def modelled(model):
 
     def count(s, at):
         value, end = model.count(s, at)
-        return [0, value, end - at, end]
+        return [0, value, end - at, end, 1 - long_ones()]
 
     def shown(kind, ids):
         return [0, kind, *ids, 0, 0][:4]
@@ -646,7 +683,7 @@ def modelled(model):
         facts.magic, facts.version = bytes(args[:4]), bytes(args[4:7])
         lay = model.scan(s, args[10], args[12] if args[11] else None, f=facts)[1]
         *fields, hashes, map_at = (getattr(lay, name) for name in model.FIELDS.split())
-        return [0, *fields, *((0, 0) if hashes is None else (1, hashes)), map_at]
+        return [0, *fields, *((0, 0) if hashes is None else (1, hashes)), map_at, long_ones()]
 
     def layout(args):
         return model.Layout(*args[:9], args[10] if args[9] else None, args[11])
@@ -673,11 +710,12 @@ def modelled(model):
         return [0, *((0, 0) if left is None else (1, left))], rows + lent[len(rows):]
 
     def walked(s, given, lent):
+        read.clear()
         try:
             rows, end = model.walk(bytes(s), *given)
         except model.Refused as r:
             return [r.number, r.place], [0] * len(lent)
-        return [0, len(rows), end, len(s) - end], [row[1] for row in rows] + lent[len(rows):]
+        return [0, len(rows), end, len(s) - end, long_ones()], [row[1] for row in rows] + lent[len(rows):]
 
     answers = {
         "veka_read_count": simple(count),
@@ -752,8 +790,13 @@ def commands(name, s, given, lent, number):
     return []
 
 
+def known(name, answer):
+    """What the Rust says of an answer: of a count the value alone, of a file its layout alone. Of a map its places tell the long counts."""
+    return answer[:{"veka_read_count": 2, "veka_scan": 13}.get(name)]
+
+
 def said(name, s, given, lent, answer):
-    """An answer of the Rust in the numbers of a case; its count reader, which reads at 0, says the value alone."""
+    """An answer of the Rust in the numbers of a case; its count reader reads at 0."""
     words = answer.split(" | ")[0].split()
     if words[0] == "err":
         at = given[0] if name == "veka_read_count" else 0
@@ -763,8 +806,10 @@ def said(name, s, given, lent, answer):
         left = (0, 0) if words[2] == "-" else (1, int(words[2]))
         return [0, *left], [*map(int, words[4:]), *lent[given[0]:]]
     if name == "veka_walk":
-        keys = [int(w.split(":")[0]) for w in words[6:]]
-        return [0, int(words[2]), int(words[4]), len(s) - int(words[4])], keys + lent[len(keys):]
+        rows = [[int(n) for n in w.replace("+", ":").split(":")] for w in words[6:]]
+        end, keys = int(words[4]), [row[0] for row in rows]
+        long = is_long(len(rows), min([end, *keys]) - given[0]) + sum(is_long(n, at - key - 32) for key, at, n in rows)
+        return [0, int(words[2]), end, len(s) - end, long], keys + lent[len(keys):]
     if name in ("veka_digest", "veka_digest_with_table"):
         word = bytes.fromhex(words[1])
         return [0, *(le(word[k:k + 8]) for k in (0, 8, 16, 24))], lent
@@ -877,6 +922,19 @@ def counts_among_bytes():
         for left in range(6, 12):
             at = rng.randrange(4)
             case("veka_read_count", at, s=(some(at) + form(number() % 2**min(7 * size, 64), size) + some(10))[:at + left])
+
+
+def small_number(size):
+    """A number that needs fewer bytes than these."""
+    return number() % 2**(7 * rng.randrange(1, size))
+
+
+def padded_counts():
+    """Long counts of every length with up to 11 bytes left, from none behind them on."""
+    for size in range(2, 10):
+        for left in range(size, 12):
+            at = rng.randrange(4)
+            case("veka_read_count", at, s=(some(at) + form(small_number(size), size) + some(10))[:at + left])
 
 
 WORDS = "veka_digest, one word"
@@ -1033,7 +1091,7 @@ def scan_bench_files():
     """P10 with and without hashes: whole, cut, each byte damaged in two ways."""
     for flags in NO_HASHES, 0:
         s = forest(*P10, flags=flags)
-        assert scan_layout(s, *FACTS, 1, 0, 0)[8:] == ([17, 41, 0, 0, 73] if flags else [17, 41, 1, 73, 137])
+        assert scan_layout(s, *FACTS, 1, 0, 0)[8:] == ([17, 41, 0, 0, 73, 0] if flags else [17, 41, 1, 73, 137, 0])
         for allow in 0, 1:
             for bound in None, 0, len(s), TOP:
                 scan(s, allow, bound)
@@ -1112,6 +1170,17 @@ def scan_sizes():
                 scan(s[:10], bound=bound)
     scan(forest([DYN] * 3 + [EXTERNAL], flags=0), bound=95)
     scan(forest([DYN] * 3 + [EXTERNAL], flags=0)[:10], bound=96)
+
+
+def scan_padded():
+    """Any of the four counts long, and all of them: accepted, and refused after all were read."""
+    for which in range(16):
+        sizes = [rng.randrange(2, 10) * (which >> k & 1) for k in range(4)]
+        for rows in [EXTERNAL, BLOCK, JOIN], [EXTERNAL, EXTERNAL, JOIN]:
+            scan(forest(rows, *P10[1:], flags=NO_HASHES, said=[2, 1, 1, 1], sizes=sizes) + [0] * 32)
+    for size in 2, 5, 9:
+        scan(forest(sizes=[size] * 4)[:-1])
+        scan(forest(sizes=[size] * 4)[:-2])
 
 
 def scan_sections():
@@ -1406,12 +1475,13 @@ def node_checks():
             case(name, *lay, s=s[:18])
 
 
-def map_bytes(entries, size=0, said=None):
-    """A map of keys and values; `size` is the count's form, and `said` what it says if not their number."""
+def map_bytes(entries, size=0, said=None, sizes=()):
+    """A map of keys and values; `size` is the count's form, `sizes` are those of the lengths, and `said` is what the count says if not
+    their number."""
     n = len(entries) if said is None else said
     s = form(n, size or shortest_len(n))
-    for key, held in entries:
-        s += little(key, 8) + form(len(held), shortest_len(len(held))) + little(held, 8)
+    for (key, held), size in zip(entries, [*sizes, *[0] * len(entries)]):
+        s += little(key, 8) + form(len(held), size or shortest_len(len(held))) + little(held, 8)
     return s
 
 
@@ -1475,6 +1545,22 @@ def maps():
     for n, table in (1, []), (TOP, [1]), (0, []), (0, [1, 2]), (2, [1]), (1, [len(s) - 32]), (1, [len(s) - 31]), (1, [TOP]):
         looked(s, n, [0] * 4, table)
         looked(s, n, word_at(s, len(s) - 32), table)
+
+
+def padded_maps():
+    """A map's count and its lengths in all their forms: accepted; cut, with a key twice and with too few places."""
+    def walked(entries, *sizes, cut=0, room=3):
+        s = map_bytes(entries, sizes[0], sizes=sizes[1:])
+        case("veka_walk", 0, s=s[:len(s) - cut], lent=[71, 72, 73][:room])
+
+    two = [([1, 2, 3, 4], [5]), ([1, 2, 3, 3], [])]
+    for size in range(1, 10):
+        walked([], size)
+        for sizes in (size, 0, 0), (0, size, 0), (0, 0, size), (size, size, size), [rng.randrange(1, 10) for _ in range(3)]:
+            walked(two, *sizes)
+        walked(two, size, 9, size, cut=1)
+        walked(two, size, 9, size, room=1)
+        walked([*two, two[0]], 2, size, size)
 
 
 # ---- made maps: by a formula, in three orders
@@ -1635,7 +1721,7 @@ def made_well_covered(answers):
             s, rows = made_map(n, order), [places[key] for key in sorted(places)]
             assert end == len(s)
             for spare in 0, 1, SPARE:
-                assert recorded("veka_walk", [0], s, MARKS[:n + spare]) == ([0, n, end, 0], rows + MARKS[n:n + spare])
+                assert recorded("veka_walk", [0], s, MARKS[:n + spare]) == ([0, n, end, 0, 0], rows + MARKS[n:n + spare])
             assert recorded("veka_walk", [0], made_map(n, order, 0, 1), MARKS[:n])[0][0] == SHORT
             if n:
                 twice, last = made_map(n, order, 1), list(places.values())[-1]
@@ -1651,7 +1737,7 @@ def made_well_covered(answers):
     for order in ORDERS:
         places, end = laid_out(LARGEST, order, 9)
         s, rows = largest_map(order), [places[key] for key in sorted(places)]
-        assert recorded("veka_walk", [1], s, LARGEST_MARKS[:-1]) == ([0, LARGEST, end, len(s) - end], rows) and end < len(s)
+        assert recorded("veka_walk", [1], s, LARGEST_MARKS[:-1]) == ([0, LARGEST, end, len(s) - end, 1], rows) and end < len(s)
     last = list(places.values())[-1]
     assert recorded("veka_walk", [1], s, LARGEST_MARKS[:-2]) == ([ROOM, last], [0] * (LARGEST - 1))
     assert recorded("veka_walk", [0], s, LARGEST_MARKS) == ([DUPLICATE, end], [0] * (LARGEST + 1))
@@ -2006,14 +2092,14 @@ def writer_well_covered(answers):
     assert sum(len(keys) > 1 and keys == sorted(keys) for keys in orders) > 20
     assert sum(len(keys) > 1 and keys == sorted(keys)[::-1] for keys in orders) > 20
     assert sum(keys not in (sorted(keys), sorted(keys)[::-1]) for keys in orders) > 10
-    for facts, s, parts, end, *_ in files:  # each is written, and it and what is written are read to the end
+    for (facts, s, parts, end, *_), is_long in zip(files, longer):  # each is written, and it and what is written are read to the end
         given, held = listed(facts, parts)
         (_, n), out = answers["veka_write", tuple(given), tuple(held), tuple(FILLED[:end])]
         assert out[n:] == FILLED[n:end]
-        for one, to in (s, end), (out[:n], n):
+        for one, to, long in (s, end, is_long), (out[:n], n, []):
             (number, *lay), _ = answers["veka_scan", (*facts, 1, 0, 0), tuple(one), ()]
             walked, _ = answers["veka_walk", (lay[11],), tuple(one), tuple(FILLED[:8])]
-            assert number == 0 and walked == [0, len(parts[7]), to, len(one) - to]
+            assert number == 0 and lay[12] == sum(long[:4]) and walked == [0, len(parts[7]), to, len(one) - to, sum(long[4:])]
     made = [(*unlisted(s, given), lent, *answers[name, tuple(given), tuple(s), tuple(lent)])
             for title, name, given, s, lent in all_cases("veka_write") if title == OTHER_PARTS]
     lines = [met(facts, parts, len(lent)) for facts, parts, lent, *_ in made]
@@ -2068,7 +2154,7 @@ def words_well_covered(answers):
             a, b = word_at(s, 1), word_at(s, 34)
             no_word = [at for at, w in ((1, a), (34, b)) if max(w) >= MODULUS]
             assert (answer, after) == (([ELEMENT, no_word[0]], [0, 0]) if no_word else ([DUPLICATE, 34], [0, 0]) if a == b
-                                       else ([0, 2, 67, len(s) - 67], [1, 34] if a < b else [34, 1]))
+                                       else ([0, 2, 67, len(s) - 67, 0], [1, 34] if a < b else [34, 1]))
             seen[title].add((answer[0], *after))
         elif title == TWO_WORDS[1]:
             a, b = given[:4], word_at(s, 1)
@@ -2076,6 +2162,37 @@ def words_well_covered(answers):
             seen[title].add((*answer, max(a + b) < MODULUS))
     assert seen[TWO_WORDS[0]] == {(0, 1, 34), (0, 34, 1), (DUPLICATE, 0, 0), (ELEMENT, 0, 0)}
     assert len(seen[TWO_WORDS[1]]) >= 5
+
+
+def long_well_covered(answers):
+    """Each count of a file and of a map is long in each of its lengths somewhere; by itself each length is the shortest somewhere too."""
+    seen, numbers = {}, {"veka_scan": set(), "veka_walk": set()}
+
+    def met(what, value, size):
+        seen.setdefault((what, is_long(value, size)), set()).add(size)
+
+    for _, name, given, s, lent in all_cases("veka_read_count", *numbers):
+        answer, after = answers[name, tuple(given), tuple(s), tuple(lent)]
+        if answer[0]:
+            continue
+        if name == "veka_read_count":
+            _, value, size, _, shortest = answer
+            met(name, value, size)
+            assert shortest == (size == shortest_len(value))
+            continue
+        numbers[name].add(answer[-1])
+        if name == "veka_scan":
+            for k, (_, value, size, _) in enumerate(counts_of(s)):
+                met(("internal", "external", "roots", "block")[k], value, size)
+        else:
+            _, n, size, _ = read_count(s, given[0])
+            met("entries", n, size)
+            for at in after[:n]:
+                met("values", *read_count(s, at + 32)[1:3])
+    for what in "veka_read_count", "internal", "external", "roots", "block", "entries", "values":
+        assert seen[what, True] == set(range(2, 10)), what
+    assert seen["veka_read_count", False] == set(range(1, 10))
+    assert numbers["veka_scan"] == set(range(5)) and numbers["veka_walk"] >= set(range(4)), numbers
 
 
 # what each call has to say: 0 where it accepts, and every refusal that it has; the writer's OVERFLOW needs more bytes than a machine has
@@ -2193,7 +2310,7 @@ def read_again(text):
             lent = group(second, 4096, lent_below)
             answer = group(third, 8192)
             lends = call in (12, 13, 14, 15, 16, 17, 18, 21, 22)
-            width = {1: 3, 3: 3, 5: 12, 7: 3, 8: 0, 9: 0, 10: 0, 11: 4, 12: 4, 13: 2, 15: 3, 16: 4, 17: 3, 21: 4, 22: 6}.get(call, 1)
+            width = {1: 4, 3: 3, 5: 13, 7: 3, 8: 0, 9: 0, 10: 0, 11: 4, 12: 4, 13: 2, 15: 4, 16: 4, 17: 3, 21: 4, 22: 6}.get(call, 1)
             fixed_part = 1 if call in (2, 20, 23) else 2 + width
             assert (lends or not lent) and len(answer) == fixed_part + len(lent) and all(x < lent_below for x in answer[fixed_part:])
             assert call not in (5, 18) or max(given[:9]) < 256
@@ -2208,9 +2325,10 @@ def read_again(text):
     return sections
 
 
-MAKERS = [bench, numbers, counts, counts_among_bytes, words, entries, scan_bench_files, scan_headers, scan_given_numbers, scan_sizes,
-          scan_sections, scan_entries, scan_many_entries, scan_random_files, rows_by_number, readers_by_index, slots, digests, node_checks,
-          maps, made_maps, largest_maps, map_places, rewrites, written_parts, claimed_orders, headers]
+MAKERS = [bench, numbers, counts, counts_among_bytes, padded_counts, words, entries, scan_bench_files, scan_headers, scan_given_numbers,
+          scan_sizes, scan_padded, scan_sections, scan_entries, scan_many_entries, scan_random_files, rows_by_number, readers_by_index,
+          slots, digests, node_checks, maps, padded_maps, made_maps, largest_maps, map_places, rewrites, written_parts, claimed_orders,
+          headers]
 
 
 def make_cases():
@@ -2239,16 +2357,15 @@ def asked_of_all(oracle, by_model, model, answers):
         replied = [next(replies) for _ in ask]
         if ask:
             reply = said(name, s, given, lent, replied[-1])
-            # the shim says a count's value alone
-            assert reply == (answer[:2] if name == "veka_read_count" else answer, after), (name, given, s, lent, reply)
+            assert reply == (known(name, answer), after), (name, given, s, lent, reply)
             source = source if name == "veka_read_count" else "the published Rust"
         if name == "veka_write" and answer[0] == 0:  # neither has a writer of files: the model reads what is written, to the end
             facts, parts = unlisted(s, given)
             written = after[:answer[1]]
             (number, *lay), _ = by_model("veka_scan", written, [*facts, 1, 0, 0], [], 0)
-            assert number == 0
-            walked, _ = by_model("veka_walk", written, lay[11:], [0] * 8, 0)
-            assert walked == [0, len(parts[7]), len(written), 0]
+            assert number == 0 and lay[12] == 0
+            walked, _ = by_model("veka_walk", written, lay[11:12], [0] * 8, 0)
+            assert walked == [0, len(parts[7]), len(written), 0, 0]
         if name == "veka_write_count" and answer[0] == 0:  # the model has no count writer: it reads back
             assert model.count(bytes(after), given[0]) == (given[1], answer[1])
         sources[source] += 1
@@ -2270,6 +2387,7 @@ def main(oracle, model_folder):
             name, given, s, lent = one
             answers[one] = DOCUMENT[name](list(s), list(given), list(lent))
     words_well_covered(answers)
+    long_well_covered(answers)
     made_well_covered(answers)
     writer_seen = writer_well_covered(answers)
     claims_well_covered(answers)

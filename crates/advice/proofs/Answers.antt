@@ -24,10 +24,10 @@ use Rattle.advice.proofs.TableStages.{Keyed, Entered}
 
 abbrev pub walkBack : Outcome Walked → MapWalk
 walkBack (refused n p) = map.Refused (refusalOf n) (place p)
-walkBack (accepted w) = map.Walked (w .entries) (cursor (w .end))
+walkBack (accepted w) = map.Walked (w .entries) (cursor (w .end)) (w .long)
 
 pub walk-again : (r : MapWalk) → walkBack (shownWalk r) ≡ r
-walk-again (map.Walked n c) = refl
+walk-again (map.Walked n c long) = refl
 walk-again (map.Refused why at) = ap (λ w. map.Refused w at) (refusal-again why)
 
 abbrev pub lookupBack : Outcome Looked → MapLookup

@@ -13,18 +13,19 @@ use lib.ListN.{length, getD, take, drop, set, replicate, length-map}
 use lib.Seq.{drop-cons, set-at, take-at, drop-at}
 use Rattle.wire.specs.Table.{Rule, rule, Outcome, refused, accepted, pick, firstMet, noneMet, _>>=_, At}
 use Rattle.wire.specs.Refusals.{SHORT, OVERFLOW, DUPLICATE, ROOM}
-use Rattle.wire.specs.Le.{isShort, shortRule, over}
-use Rattle.wire.specs.Counts.{counted, countRule, countOutcome}
+use Rattle.wire.specs.Le.{isShort}
+use Rattle.wire.specs.Counts.{longOnes, countLength, counted, countRule, countOutcome}
 use Rattle.wire.specs.Words.{fourAt, wordRules, wordOutcome}
 use Rattle.wire.specs.declared.count.Count.{Count}
 use Rattle.wire.proofs.Stages.{in-turn, in-the-end}
 use Rattle.wire.proofs.Tables.{accepted-none, none-accepted, none-parts}
 use Rattle.wire.proofs.Words.{word-whole}
+use Rattle.wire.proofs.Counts.{one-most}
 use Rattle.keys.specs.Sorted.{sorted}
 use Rattle.keys.specs.Keys.{sameKey, seenKey, keyOrder, keyLess}
-use Rattle.advice.specs.Walk.{nextEntry, adviceRules, walkRules, walkEnd, keyOffsets, Walked, mapRules, walkOutcome, keyTable}
+use Rattle.advice.specs.Walk.{size, nextEntry, adviceRules, walkRules, walkEnd, keyOffsets, walkShown, shownSizes, Walked, mapRules, walkOutcome, keyTable}
 use Rattle.keys.specs.Sort.{sameAt, hasKey, firstRepeat, firstDuplicate, Ascending}
-use Rattle.advice.specs.Inner.{valuesRules, valuesOutcome, entryRules, entryEndOutcome, entriesOutcome, entriesTable, unlessRepeat, stopShown, FilledTo}
+use Rattle.advice.specs.Inner.{lengthRules, lengthOutcome, valuesRules, valuesOutcome, lengthEndOutcome, entryRules, entryEndOutcome, longAfter, entriesOutcome, entriesTable, unlessRepeat, stopShown, FilledTo}
 use Rattle.keys.specs.declared.sort.Duplicate.{Duplicate}
 use Rattle.keys.specs.declared.sort.Duplicate.the-variants.{At as Again, Nothing}
 use Rattle.advice.specs.declared.walk.Stop.{Stop}
@@ -46,75 +47,106 @@ module _ {A B : Type 0} where
 -- ---- the length at a place, and its values: the cases, for the code's proof
 
 module _ (s : List ℕ) (at : ℕ) where
-  -- what is asked of a length, and of the values after it
-  abbrev lengthRules : At Count → List Rule
-  lengthRules c = rule OVERFLOW at (over (8 * c .value .value)) ∷ shortRule s (c .next) (8 * c .value .value) ∷ []
+  -- the values of a length that was read
+  module _ (c : Count) (from : ℕ) where
+    abbrev read : At Count
+    read = record { value = c; next = from }
 
-  abbrev lengthOutcome : At Count → Outcome (At ℕ)
-  lengthOutcome c = firstMet (lengthRules c) (record { value = c .value .value; next = c .next })
+    pub length-over : 2 ^ 64 - 1 < 8 * c .value → refused OVERFLOW at ≡ lengthOutcome s at read
+    unfolding lengthOutcome firstMet
+    length-over h = rw (lt-ltb _ _ h)
 
-  values-split : valuesOutcome s at ≡ (countOutcome s at >>= lengthOutcome)
-  unfolding valuesOutcome valuesRules countOutcome
+    pub length-short : 8 * c .value ≤ 2 ^ 64 - 1 → isShort s from (8 * c .value) ≡ true → refused SHORT from ≡ lengthOutcome s at read
+    unfolding lengthOutcome firstMet
+    length-short h e = rw (le-ltb _ _ h, e)
+
+    pub length-whole : 8 * c .value ≤ 2 ^ 64 - 1 → isShort s from (8 * c .value) ≡ false
+        → accepted (record { value = c .value; next = from }) ≡ lengthOutcome s at read
+    unfolding lengthOutcome firstMet
+    length-whole h e = rw (le-ltb _ _ h, e)
+
+    -- values that are accepted are all in the file
+    pub length-inside : (n p : ℕ) → accepted (record { value = n; next = p }) ≡ lengthOutcome s at read → p + 8 * n ≤ length s
+    unfolding lengthOutcome
+    length-inside n p e =
+        let u : At ℕ = record { value = c .value; next = from } in
+        let w : At ℕ = record { value = n; next = p } in
+        let h = accepted-none (lengthRules s at read) u w (sym e) in
+        let v : c .value ≡ n = ap (λ (x : At ℕ). x .value) (h .1) in
+        let k : from ≡ p = ap (λ (x : At ℕ). x .next) (h .1) in
+        rw (v, k) at (ltb-false (length s) (from + 8 * c .value) (h .0 .1 .0))
+
+  abbrev here : At Count
+  here = record { value = counted s at; next = at + counted s at .len }
+
+  values-split : valuesOutcome s at ≡ (countOutcome s at >>= lengthOutcome s at)
+  unfolding valuesOutcome valuesRules countOutcome lengthOutcome
   values-split =
-      in-turn (countRule s at ∷ []) (record { value = counted s at; next = at + counted s at .len }) lengthRules
-      (λ c. record { value = c .value .value; next = c .next }) lengthOutcome (λ c. refl)
+      in-turn (countRule s at ∷ []) here (lengthRules s at) (λ c. record { value = c .value .value; next = c .next }) (lengthOutcome s at) (λ c. refl)
 
   pub values-none : (n p : ℕ) → refused n p ≡ countOutcome s at → refused n p ≡ valuesOutcome s at
   unfolding _>>=_
   values-none n p e = rw (values-split, ← e)
 
-  module _ (c : Count) (from : ℕ) (said : accepted (record { value = c; next = from }) ≡ countOutcome s at) where
-    pub values-over : 2 ^ 64 - 1 < 8 * c .value → refused OVERFLOW at ≡ valuesOutcome s at
-    unfolding _>>=_ firstMet
-    values-over h = rw (values-split, ← said, lt-ltb _ _ h)
+  pub values-read : (c : Count) (from : ℕ) → accepted (read c from) ≡ countOutcome s at → lengthOutcome s at (read c from) ≡ valuesOutcome s at
+  unfolding _>>=_
+  values-read c from said = rw (values-split, ← said)
 
-    pub values-short : 8 * c .value ≤ 2 ^ 64 - 1 → isShort s from (8 * c .value) ≡ true → refused SHORT from ≡ valuesOutcome s at
-    unfolding _>>=_ firstMet
-    values-short h e = rw (values-split, ← said, le-ltb _ _ h, e)
+  -- whether a length is the shortest, and the place after its values
+  abbrev afterValues : At Count → At ℕ → At Bool
+  afterValues c v = record { value = c .value .shortest; next = v .next + 8 * v .value }
 
-    pub values-whole : 8 * c .value ≤ 2 ^ 64 - 1 → isShort s from (8 * c .value) ≡ false
-        → accepted (record { value = c .value; next = from }) ≡ valuesOutcome s at
-    unfolding _>>=_ firstMet
-    values-whole h e = rw (values-split, ← said, le-ltb _ _ h, e)
+  abbrev afterLength : At Count → Outcome (At Bool)
+  afterLength c = lengthOutcome s at c >>= (λ v. accepted (afterValues c v))
 
-  -- values that are accepted are all in the file
-  pub values-inside : (n from : ℕ) → accepted (record { value = n; next = from }) ≡ valuesOutcome s at → from + 8 * n ≤ length s
+  end-split : lengthEndOutcome s at ≡ (countOutcome s at >>= afterLength)
+  unfolding lengthEndOutcome valuesRules countOutcome lengthOutcome
+  end-split =
+      in-turn (countRule s at ∷ []) here (lengthRules s at) (λ c. afterValues c (record { value = c .value .value; next = c .next })) afterLength
+      (λ c. in-the-end (lengthRules s at c) (record { value = c .value .value; next = c .next }) (afterValues c))
+
+  pub end-none : (n p : ℕ) → refused n p ≡ countOutcome s at → refused n p ≡ lengthEndOutcome s at
+  unfolding _>>=_
+  end-none n p e = rw (end-split, ← e)
+
+  module _ (c : Count) (from : ℕ) (said : accepted (read c from) ≡ countOutcome s at) where
+    pub end-no-values : (n p : ℕ) → refused n p ≡ lengthOutcome s at (read c from) → refused n p ≡ lengthEndOutcome s at
+    unfolding _>>=_
+    end-no-values n p e = rw (end-split, ← said, ← e)
+
+    pub end-whole : (n p : ℕ) → accepted (record { value = n; next = p }) ≡ lengthOutcome s at (read c from)
+        → accepted (record { value = c .shortest; next = p + 8 * n }) ≡ lengthEndOutcome s at
+    unfolding _>>=_
+    end-whole n p e = rw (end-split, ← said, ← e)
+
+  length-none : noneMet (lengthRules s at here) → lengthOutcome s at here ≡ accepted (record { value = counted s at .value; next = at + counted s at .len })
+  unfolding lengthOutcome
+  length-none none = none-accepted (lengthRules s at here) (record { value = counted s at .value; next = at + counted s at .len }) none
+
+  -- the same of the whole reader
+  pub values-inside : (n p : ℕ) → accepted (record { value = n; next = p }) ≡ valuesOutcome s at → p + 8 * n ≤ length s
   unfolding valuesOutcome valuesRules
-  values-inside n from e =
-      let u : At ℕ = record { value = counted s at .value; next = at + counted s at .len } in
-      let w : At ℕ = record { value = n; next = from } in
-      let h = accepted-none (valuesRules s at) u w (sym e) in
-      let v : counted s at .value ≡ n = ap (λ (x : At ℕ). x .value) (h .1) in
-      let k : at + counted s at .len ≡ from = ap (λ (x : At ℕ). x .next) (h .1) in
-      let z : at + counted s at .len + 8 * counted s at .value ≤ length s =
-      ltb-false (length s) (at + counted s at .len + 8 * counted s at .value) (h .0 .1 .1 .0) in
-      rw (v, k) at z
+  values-inside n p e =
+      let h = accepted-none (valuesRules s at) (record { value = counted s at .value; next = at + counted s at .len }) (record { value = n; next = p }) (sym e) in
+      length-inside (counted s at) (at + counted s at .len) n p (sym (length-none (h .0 .1) ∙ ap accepted (h .1)))
 
 -- ---- an entry
 
 module _ (s : List ℕ) (at : ℕ) where
-  abbrev afterKey : At (List ℕ) → Outcome ℕ
-  afterKey w = valuesOutcome s (w .next) >>= (λ v. accepted (v .next + 8 * v .value))
-
-  entry-split : entryEndOutcome s at ≡ (wordOutcome s at >>= afterKey)
-  unfolding entryEndOutcome entryRules wordOutcome valuesOutcome
+  entry-split : entryEndOutcome s at ≡ (wordOutcome s at >>= (λ w. lengthEndOutcome s (w .next)))
+  unfolding entryEndOutcome entryRules wordOutcome lengthEndOutcome
   entry-split =
       in-turn (wordRules s at) (record { value = fourAt s at; next = at + 32 }) (λ w. valuesRules s (w .next))
-      (λ w. w .next + counted s (w .next) .len + 8 * counted s (w .next) .value) afterKey
-      (λ w. in-the-end (valuesRules s (w .next)) (record { value = counted s (w .next) .value; next = w .next + counted s (w .next) .len }) (λ (v : At ℕ). v .next + 8 * v .value))
+      (λ w. record { value = counted s (w .next) .shortest; next = w .next + counted s (w .next) .len + 8 * counted s (w .next) .value })
+      (λ w. lengthEndOutcome s (w .next)) (λ w. refl)
 
   pub entry-no-key : (n p : ℕ) → refused n p ≡ wordOutcome s at → refused n p ≡ entryEndOutcome s at
   unfolding _>>=_
   entry-no-key n p e = rw (entry-split, ← e)
 
-  module _ (length : ℕ) (said : accepted (record { value = fourAt s at; next = length }) ≡ wordOutcome s at) where
-    pub entry-no-values : (n p : ℕ) → refused n p ≡ valuesOutcome s length → refused n p ≡ entryEndOutcome s at
-    unfolding _>>=_
-    entry-no-values n p e = rw (entry-split, ← said, ← e)
-
-    pub entry-whole : (n from : ℕ) → accepted (record { value = n; next = from }) ≡ valuesOutcome s length → accepted (from + 8 * n) ≡ entryEndOutcome s at
-    unfolding _>>=_
-    entry-whole n from e = rw (entry-split, ← said, ← e)
+  pub entry-key : (length : ℕ) → accepted (record { value = fourAt s at; next = length }) ≡ wordOutcome s at → lengthEndOutcome s length ≡ entryEndOutcome s at
+  unfolding _>>=_
+  entry-key length said = rw (entry-split, ← said)
 
 -- ---- the entries, one after the other
 
@@ -139,6 +171,23 @@ module _ (s : List ℕ) where
   offset-at at zero i h = absurd (omega arith)
   offset-at at (suc k) zero h = refl
   offset-at at (suc k) (suc i) h = offset-at (nextEntry s at) k i (omega arith)
+
+  -- one more length: it is long or not
+  pub long-next : (at k : ℕ) → longOnes (shownSizes s at (suc k)) ≡ longOnes (shownSizes s at k) + pick (size s (walkEnd s at k) .shortest) 0 1
+  unfolding walkShown walkEnd longOnes
+  long-next at zero = omega arith
+  long-next at (suc k) = omega (arith, long-next (nextEntry s at) k)
+
+  -- so no more are long than there are
+  pub long-few : (at k : ℕ) → longOnes (shownSizes s at k) ≤ k
+  unfolding walkShown longOnes
+  long-few at zero = omega arith
+  long-few at (suc k) = omega (arith, long-few (nextEntry s at) k, one-most (size s at .shortest))
+
+  -- an entry takes at least 33 bytes
+  pub entry-bytes : (at : ℕ) → at + 33 ≤ nextEntry s at
+  unfolding counted countLength
+  entry-bytes at = omega arith
 
   end-above : (at k : ℕ) → at + k ≤ walkEnd s at k
   unfolding walkEnd
@@ -201,7 +250,7 @@ module _ {A : Type 0} (places : ℕ) (s : List ℕ) (at n : ℕ) (seen : List (L
   unfolding walkRules firstMet entryEndOutcome entryRules wordRules valuesRules
   refused-here h x p e =
       rw (lt-leb _ _ h)
-      (first-stops (entryRules s at) (rule DUPLICATE at (seenKey seen (fourAt s at)) ∷ walkRules places s (nextEntry s at) n (fourAt s at ∷ seen)) (nextEntry s at) v x p e)
+      (first-stops (entryRules s at) (rule DUPLICATE at (seenKey seen (fourAt s at)) ∷ walkRules places s (nextEntry s at) n (fourAt s at ∷ seen)) _ v x p e)
 
   passed-here : length seen < places → noneMet (entryRules s at)
       → firstMet (walkRules places s at (suc n) seen) v
@@ -244,39 +293,46 @@ module _ {A : Type 0} (places : ℕ) (s : List ℕ) (m : ℕ) (v : A) where
       go false = refl
 
 -- i entries are whole, and then the table is used up, or the next entry is refused, or there are no more
-module _ (places : ℕ) (s : List ℕ) (at n i : ℕ) (room : i ≤ places) (none : (j : ℕ) → j < i → noneMet (entryRules s (walkEnd s at j))) where
+module _ (places : ℕ) (s : List ℕ) (at : ℕ) (c : Count) (i : ℕ) (room : i ≤ places) (none : (j : ℕ) → j < i → noneMet (entryRules s (walkEnd s at j))) where
   abbrev First : Duplicate
   First = firstDuplicate s (keyOffsets s at i)
 
-  entries-left : (m : ℕ) → i + m ≡ n → entriesOutcome places s at n ≡ unlessRepeat First (firstMet (walkRules places s (walkEnd s at i) m (seenAfter s at i [])) (record { entries = n; end = walkEnd s at n }))
+  entries-left : (m : ℕ) → i + m ≡ c .value
+      → entriesOutcome places s at c
+      ≡ unlessRepeat First
+      (firstMet (walkRules places s (walkEnd s at i) m (seenAfter s at i []))
+      (record { entries = c .value; end = walkEnd s at (c .value); long = longAfter s at c (c .value) }))
   unfolding entriesOutcome
   entries-left m e =
       let z : i + length {A = ℕ} [] ≤ places = omega arith in
-      rw e at (after-entries {A = Walked} places s m (record { entries = i + m; end = walkEnd s at (i + m) }) i at [] tt z none)
+      rw e at (after-entries {A = Walked} places s m (record { entries = i + m; end = walkEnd s at (i + m); long = longAfter s at c (i + m) }) i at [] tt z none)
 
-  more : i < n → i + suc (n - suc i) ≡ n
+  more : i < c .value → i + suc (c .value - suc i) ≡ c .value
   more h = omega arith
 
-  pub stopped-room : i < n → places ≤ i → entriesOutcome places s at n ≡ unlessRepeat First (refused ROOM (walkEnd s at i))
+  pub stopped-room : i < c .value → places ≤ i → entriesOutcome places s at c ≡ unlessRepeat First (refused ROOM (walkEnd s at i))
   stopped-room h l =
       let z : places ≤ length (seenAfter s at i []) = omega (arith, length-seen s at i []) in
-      entries-left (suc (n - suc i)) (more h) ∙ ap (unlessRepeat First) (room-here places s (walkEnd s at i) (n - suc i) (seenAfter s at i []) _ z)
+      entries-left (suc (c .value - suc i)) (more h) ∙ ap (unlessRepeat First) (room-here places s (walkEnd s at i) (c .value - suc i) (seenAfter s at i []) _ z)
 
-  pub stopped-entry : i < n → i < places → (x p : ℕ) → refused x p ≡ entryEndOutcome s (walkEnd s at i) → entriesOutcome places s at n ≡ unlessRepeat First (refused x p)
+  pub stopped-entry : i < c .value → i < places → (x p : ℕ) → refused x p ≡ entryEndOutcome s (walkEnd s at i) → entriesOutcome places s at c ≡ unlessRepeat First (refused x p)
   stopped-entry h l x p e =
       let z : length (seenAfter s at i []) < places = omega (arith, length-seen s at i []) in
-      entries-left (suc (n - suc i)) (more h) ∙ ap (unlessRepeat First) (refused-here places s (walkEnd s at i) (n - suc i) (seenAfter s at i []) _ z x p (sym e))
+      entries-left (suc (c .value - suc i)) (more h) ∙ ap (unlessRepeat First) (refused-here places s (walkEnd s at i) (c .value - suc i) (seenAfter s at i []) _ z x p (sym e))
 
-  pub stopped-end : i ≡ n → entriesOutcome places s at n ≡ unlessRepeat First (accepted (record { entries = i; end = walkEnd s at i }))
+  pub stopped-end : i ≡ c .value → entriesOutcome places s at c ≡ unlessRepeat First (accepted (record { entries = i; end = walkEnd s at i; long = longAfter s at c i }))
   unfolding walkRules firstMet
   stopped-end e =
-      let z : i + 0 ≡ n = omega arith in
+      let z : i + 0 ≡ c .value = omega arith in
       rw e (rw e at (entries-left 0 z))
 
 -- an entry that is accepted is whole
-pub entry-taken : (s : List ℕ) (at next : ℕ) → accepted next ≡ entryEndOutcome s at → noneMet (entryRules s at) × (nextEntry s at ≡ next)
+pub entry-taken : (s : List ℕ) (at : ℕ) (x : At Bool) → accepted x ≡ entryEndOutcome s at
+    → noneMet (entryRules s at) × ((nextEntry s at ≡ x .next) × (size s at .shortest ≡ x .value))
 unfolding entryEndOutcome
-entry-taken s at next e = accepted-none (entryRules s at) (nextEntry s at) next (sym e)
+entry-taken s at x e =
+    let h = accepted-none (entryRules s at) (record { value = size s at .shortest; next = nextEntry s at }) x (sym e) in
+    (h .0, (ap (λ (y : At Bool). y .next) (h .1), ap (λ (y : At Bool). y .value) (h .1)))
 
 -- ---- where no rule is met: every entry is whole, the table has room, and there is no duplicate
 
@@ -322,11 +378,11 @@ whole-next s at i none here j h = elim (ℕ-discrete j i) [ yes e ↦ rw e here 
 
 -- ---- the end of the walk, over what `fill` left: duplicates first, then what stopped it
 
-pub table-refused : (s : List ℕ) (at n : ℕ) (t₀ : List ℕ) (x p : ℕ) → refused x p ≡ entriesOutcome (length t₀) s at n → entriesTable s at n t₀ ≡ replicate (length t₀) 0
+pub table-refused : (s : List ℕ) (at : ℕ) (c : Count) (t₀ : List ℕ) (x p : ℕ) → refused x p ≡ entriesOutcome (length t₀) s at c → entriesTable s at c t₀ ≡ replicate (length t₀) 0
 unfolding entriesTable
-table-refused s at n t₀ x p e = rw (← e)
+table-refused s at c t₀ x p e = rw (← e)
 
-module _ (s : List ℕ) (at n : ℕ) (t₀ t : List ℕ) (r : Filled) (f : FilledTo s at n t₀ t r) where
+module _ (s : List ℕ) (at : ℕ) (c : Count) (t₀ t : List ℕ) (r : Filled) (f : FilledTo s at c t₀ t r) where
   pub filled-front : take (r .n) t ≡ keyOffsets s at (r .n)
   filled-front = rw (f .table) (take-at (keyOffsets s at (r .n)) (drop (r .n) t₀) (r .n) (length-offsets s at (r .n)))
 
@@ -340,37 +396,37 @@ module _ (s : List ℕ) (at n : ℕ) (t₀ t : List ℕ) (r : Filled) (f : Fille
   filled-long = rw filled-front (sym (length-offsets s at (r .n)))
 
   module _ (d : Duplicate) (said : d ≡ firstDuplicate s (take (r .n) t)) where
-    told : entriesOutcome (length t₀) s at n ≡ unlessRepeat d (stopShown (r .n) (r .stop))
+    told : entriesOutcome (length t₀) s at c ≡ unlessRepeat d (stopShown (r .n) (r .stop))
     told = rw said (rw filled-front (f .said))
 
-    pub repeat-told : (x : ℕ) → d ≡ Again x → refused DUPLICATE x ≡ entriesOutcome (length t₀) s at n
+    pub repeat-told : (x : ℕ) → d ≡ Again x → refused DUPLICATE x ≡ entriesOutcome (length t₀) s at c
     repeat-told x e = sym (rw e at told)
 
-    pub stop-told : (o : Stop) → d ≡ Nothing → r .stop ≡ o → stopShown (r .n) o ≡ entriesOutcome (length t₀) s at n
+    pub stop-told : (o : Stop) → d ≡ Nothing → r .stop ≡ o → stopShown (r .n) o ≡ entriesOutcome (length t₀) s at c
     stop-told o e q = rw (← q) (sym (rw e at told))
 
-    pub table-told : (end : ℕ) → accepted (record { entries = r .n; end = end }) ≡ entriesOutcome (length t₀) s at n → (u : List ℕ) → u ≡ sorted (keyLess s) (take (r .n) t)
-        → u ++ drop (r .n) t ≡ entriesTable s at n t₀
+    pub table-told : (end long : ℕ) → accepted (record { entries = r .n; end = end; long = long }) ≡ entriesOutcome (length t₀) s at c → (u : List ℕ) → u ≡ sorted (keyLess s) (take (r .n) t)
+        → u ++ drop (r .n) t ≡ entriesTable s at c t₀
     unfolding entriesTable
-    table-told end e u q = rw (← e, q, filled-front, filled-rest)
+    table-told end long e u q = rw (← e, q, filled-front, filled-rest)
 
 -- ---- the walk: its count, then its entries
 
 module _ (places : ℕ) (s : List ℕ) (at : ℕ) where
   abbrev afterCount : At Count → Outcome Walked
-  afterCount c = entriesOutcome places s (c .next) (c .value .value)
+  afterCount c = entriesOutcome places s (c .next) (c .value)
 
   walk-split : walkOutcome places s at ≡ (countOutcome s at >>= afterCount)
   unfolding walkOutcome mapRules countOutcome entriesOutcome
   walk-split =
       in-turn (countRule s at ∷ []) (record { value = counted s at; next = at + counted s at .len }) (λ c. walkRules places s (c .next) (c .value .value) [])
-      (λ c. record { entries = c .value .value; end = walkEnd s (c .next) (c .value .value) }) afterCount (λ c. refl)
+      (λ c. record { entries = c .value .value; end = walkEnd s (c .next) (c .value .value); long = longAfter s (c .next) (c .value) (c .value .value) }) afterCount (λ c. refl)
 
   pub no-count : (n p : ℕ) → refused n p ≡ countOutcome s at → refused n p ≡ walkOutcome places s at
   unfolding _>>=_
   no-count n p e = rw (walk-split, ← e)
 
-  pub with-count : (c : Count) (next : ℕ) → accepted (record { value = c; next = next }) ≡ countOutcome s at → entriesOutcome places s next (c .value) ≡ walkOutcome places s at
+  pub with-count : (c : Count) (next : ℕ) → accepted (record { value = c; next = next }) ≡ countOutcome s at → entriesOutcome places s next c ≡ walkOutcome places s at
   unfolding _>>=_
   with-count c next e = rw (walk-split, ← e)
 
@@ -378,7 +434,7 @@ pub no-count-table : (s : List ℕ) (at : ℕ) (t : List ℕ) (n p : ℕ) → re
 unfolding keyTable
 no-count-table s at t n p e = rw (← no-count (length t) s at n p e)
 
-pub with-count-table : (s : List ℕ) (at : ℕ) (t : List ℕ) (c : Count) (next : ℕ) → accepted (record { value = c; next = next }) ≡ countOutcome s at → entriesTable s next (c .value) t ≡ keyTable s at t
+pub with-count-table : (s : List ℕ) (at : ℕ) (t : List ℕ) (c : Count) (next : ℕ) → accepted (record { value = c; next = next }) ≡ countOutcome s at → entriesTable s next c t ≡ keyTable s at t
 unfolding keyTable entriesTable countOutcome
 with-count-table s at t c next e =
     let h = accepted-none (countRule s at ∷ []) (record { value = counted s at; next = at + counted s at .len }) (record { value = c; next = next }) (sym e) in

@@ -9,11 +9,11 @@ use Rattle.wire.specs.Table.{Outcome, refused, accepted, firstMet, _>>=_}
 use Rattle.wire.specs.Refusals.{SHORT, OVERFLOW, INDEX, ELEMENT, DUPLICATE, ROOM}
 use Rattle.wire.specs.Le.{le, leBytes, numberAt}
 use Rattle.wire.specs.Rows.{rows, numbersOf}
-use Rattle.wire.specs.Counts.{countLength, countValue, counted}
+use Rattle.wire.specs.Counts.{leastFrom, shortestLen, longOnes, countLength, countValue, counted}
 use Rattle.wire.specs.Words.{modulus, isElement, notElements, fourAt, wordAt, wordOrder, wordRules}
 use Rattle.keys.specs.Sorted.{insert, sorted}
 use Rattle.keys.specs.Keys.{sameKey, seenKey, keyOrder, keyLess}
-use Rattle.advice.specs.Walk.{walkRules, walkEnd, keyOffsets, Walked, mapRules, walkOutcome, keyTable}
+use Rattle.advice.specs.Walk.{walkRules, walkEnd, keyOffsets, walkShown, Walked, mapRules, walkOutcome, keyTable}
 use Rattle.advice.specs.Lookup.{halving, Looked, found, absent, elementRules, foundRules, foundOutcome, lookupOutcome, valuesPart}
 use Rattle.advice.specs.Table.{MapEntry, keyRules, keyOutcome, mapEntryRules, mapEntryOutcome, placesNeeded}
 
@@ -79,8 +79,12 @@ ask (keyAt s t i) = keyed (keyOutcome s t i)
 ask (entryAt s t i) = entered (mapEntryOutcome s t i)
 ask (places s at) = needed (placesNeeded s at)
 
+-- with so many long counts
+abbrev pub walksLong : ℕ → ℕ → ℕ → List ℕ → Answer
+walksLong long n end t = walked (accepted (record { entries = n; end = end; long = long })) t
+
 abbrev pub walks : ℕ → ℕ → List ℕ → Answer
-walks n end t = walked (accepted (record { entries = n; end = end })) t
+walks = walksLong 0
 
 abbrev pub enters : List ℕ → ℕ → ℕ → Answer
 enters key from len = entered (accepted (record { key = key; values = from; len = len }))
@@ -107,6 +111,10 @@ examples =
     ∷ (walk twice 0 (9 ∷ 9 ∷ []) ⇒ walked (refused DUPLICATE 42) (0 ∷ 0 ∷ []))
     ∷ (walk twiceShort 0 (9 ∷ 9 ∷ []) ⇒ walked (refused SHORT 75) (0 ∷ 0 ∷ []))
     ∷ (walk twiceMore 0 (9 ∷ 9 ∷ []) ⇒ walked (refused DUPLICATE 42) (0 ∷ 0 ∷ []))
+    -- long counts: of the map, of a length, of both in nine bytes
+    ∷ (walk (2 ∷ 0 ∷ []) 0 (9 ∷ []) ⇒ walksLong 1 0 2 (9 ∷ []))
+    ∷ (walk (small 1 ∷ rows 8 (word 5) ++ (2 ∷ 0 ∷ [])) 0 (9 ∷ []) ⇒ walksLong 1 1 35 (1 ∷ []))
+    ∷ (walk ((0 ∷ leBytes 8 1) ++ (rows 8 (word 5) ++ (0 ∷ leBytes 8 0))) 0 (9 ∷ []) ⇒ walksLong 2 1 50 (9 ∷ []))
     -- values are not judged by the walk
     ∷ (walk noElement 0 (9 ∷ []) ⇒ walks 1 50 (1 ∷ []))
     -- the lookup: the higher key at once, the lower one after it, and none between, above or among none
@@ -142,5 +150,5 @@ examples =
     ∷ []
 
 pub answered : map (λ (x : Example). ask (x .question)) examples ≡ map (λ (x : Example). x .answer) examples
-unfolding firstMet _>>=_ le leBytes rows numbersOf numberAt countLength trailingZeros countValue counted isElement notElements fourAt wordAt wordOrder insert sorted sameKey seenKey keyOrder keyLess walkRules walkEnd keyOffsets mapRules walkOutcome keyTable halving elementRules foundRules foundOutcome lookupOutcome wordRules keyRules keyOutcome mapEntryRules mapEntryOutcome placesNeeded
+unfolding firstMet _>>=_ le leBytes rows numbersOf numberAt leastFrom shortestLen longOnes countLength trailingZeros countValue counted isElement notElements fourAt wordAt wordOrder insert sorted sameKey seenKey keyOrder keyLess walkRules walkEnd keyOffsets walkShown mapRules walkOutcome keyTable halving elementRules foundRules foundOutcome lookupOutcome wordRules keyRules keyOutcome mapEntryRules mapEntryOutcome placesNeeded
 answered = refl

@@ -16,7 +16,7 @@ use lib.Dec.{leb}
 use lib.ListN.{length, getD}
 use Rattle.wire.specs.Table.{Rule, rule, refused, accepted, pick, firstMet, noneMet}
 use Rattle.wire.specs.Refusals.{DUPLICATE, ROOM}
-use Rattle.wire.specs.Counts.{countLength, counted, countRule}
+use Rattle.wire.specs.Counts.{countRule}
 use Rattle.wire.specs.Words.{fourAt, wordAt, wordRules, wordOrder}
 use Rattle.wire.specs.declared.word.WordOrder.the-variants.{Below}
 use Rattle.wire.proofs.Tables.{accepted-none, none-accepted}
@@ -25,7 +25,7 @@ use Rattle.keys.specs.Keys.{seenKey}
 use Rattle.advice.specs.Walk.{size, valuesAt, nextEntry, walkRules, Walked, walked, entryCount, firstEntry, mapRules, walkOutcome, keyTable, Risen, EntryOf}
 use Rattle.advice.specs.Table.{offsetAt, keyRules, keyOutcome, mapEntryRules, mapEntryOutcome, placesNeeded}
 use Rattle.advice.specs.Inner.{entryRules, valuesRules}
-use Rattle.advice.proofs.Entries.{all-whole}
+use Rattle.advice.proofs.Entries.{entry-bytes, all-whole}
 use Rattle.advice.proofs.Halving.{refused-never}
 use Rattle.advice.proofs.Risen.{rules-unmet, walk-risen, entry-of, place-of}
 
@@ -47,11 +47,6 @@ module _ {A : Type 0} (v : A) (n p : ℕ) where
       go later false q e = let k = later e in ((q, k .0), k .1)
 
 -- ---- enough places: as many as there are entries, or more than have room in the file
-
--- an entry takes at least 33 bytes
-entry-long : (s : List ℕ) (at : ℕ) → at + 33 ≤ nextEntry s at
-unfolding counted countLength
-entry-long s at = omega arith
 
 module _ {A : Type 0} (places : ℕ) (s : List ℕ) (v : A) (p : ℕ) where
   abbrev Enough : ℕ → ℕ → ℕ → Type 0
@@ -79,7 +74,7 @@ module _ {A : Type 0} (places : ℕ) (s : List ℕ) (v : A) (p : ℕ) where
       let once : Lacks ROOM (twice ∷ []) = (λ q. omega arith, tt) in
       let k = after-others v ROOM p (entryRules s at) (twice ∷ rest) other (rw (lt-leb places (length seen) (enough-some at n (length seen) h)) at e) in
       let inside : nextEntry s at ≤ length s = ltb-false (length s) (nextEntry s at) (k .0 .1 .1 .1 .1 .0) in
-      entries-room (nextEntry s at) n (fourAt s at ∷ seen) (enough-next at (nextEntry s at) n (length seen) (entry-long s at) inside h) (after-others v ROOM p (twice ∷ []) rest once (k .1) .1)
+      entries-room (nextEntry s at) n (fourAt s at ∷ seen) (enough-next at (nextEntry s at) n (length seen) (entry-bytes s at) inside h) (after-others v ROOM p (twice ∷ []) rest once (k .1) .1)
 
 -- the least of two numbers is enough for one of them
 least-enough : (l first c places : ℕ) → first ≤ l → min c ((l - first) / 33 + 1) ≤ places → (c + 0 ≤ places) ⊎ ((0 < places) × (l < first + 33 * (places - 0)))

@@ -18,7 +18,7 @@ use Rattle.advice.specs.declared.table.MapEntryAnswer.the-variants as en
 use Rattle.advice.specs.declared.table.MapEntryRead.{MapEntryRead}
 
 abbrev pub shownWalk : MapWalk → Outcome Walked
-shownWalk (map.Walked n c) = accepted (record { entries = n; end = c .at .0 })
+shownWalk (map.Walked n c long) = accepted (record { entries = n; end = c .at .0; long = long })
 shownWalk (map.Refused why at) = refused (numberOf why) (at .0)
 
 abbrev pub shownLookup : MapLookup → Outcome Looked

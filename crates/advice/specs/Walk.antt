@@ -11,7 +11,7 @@ use Rattle.wire.specs.Table.{Rule, rule, Outcome, refused, accepted, firstMet}
 use Rattle.wire.specs.Refusals.{OVERFLOW, ELEMENT, DUPLICATE, ROOM}
 use Rattle.wire.specs.Le.{isShort, shortRule, over}
 use Rattle.wire.specs.Rows.{numbersOf}
-use Rattle.wire.specs.Counts.{counted, countRule}
+use Rattle.wire.specs.Counts.{longOnes, counted, countRule}
 use Rattle.wire.specs.Words.{notElements, fourAt, wordAt, wordOrder}
 use Rattle.wire.specs.declared.word.WordOrder.the-variants.{Below}
 use Rattle.wire.specs.declared.count.Count.{Count}
@@ -73,12 +73,17 @@ walkShown s at (suc n) = record { key = fourAt s at; size = size s at; values = 
 abbrev pub shownKeys : List ℕ → ℕ → ℕ → List (List ℕ)
 shownKeys s at n = map (λ (a : Advice). a .key) (walkShown s at n)
 
+-- and their lengths
+abbrev pub shownSizes : List ℕ → ℕ → ℕ → List Count
+shownSizes s at n = map (λ (a : Advice). a .size) (walkShown s at n)
+
 -- ---- the map: a count, and as many entries
 
--- what an accepted walk gives: the number of entries, and the place after the last
+-- what an accepted walk gives: the number of entries, the place after the last, and how many of the map's counts are long
 pub record Walked : Type 0 where
   pub entries : ℕ
   pub end : ℕ
+  pub long : ℕ
 
 module _ (s : List ℕ) (at : ℕ) where
   abbrev pub entryCount : Count
@@ -87,8 +92,12 @@ module _ (s : List ℕ) (at : ℕ) where
   abbrev pub firstEntry : ℕ
   firstEntry = at + entryCount .len
 
+  -- its counts, in the file's order: that of the entries, and their lengths
+  abbrev pub mapCounts : List Count
+  mapCounts = entryCount ∷ shownSizes s firstEntry (entryCount .value)
+
   abbrev pub walked : Walked
-  walked = record { entries = entryCount .value; end = walkEnd s firstEntry (entryCount .value) }
+  walked = record { entries = entryCount .value; end = walkEnd s firstEntry (entryCount .value); long = longOnes mapCounts }
 
   -- the walk's rules: SHORT [offset] beyond the file or with no whole count; then each entry's, from first to last
   unfoldable pub mapRules : ℕ → List Rule

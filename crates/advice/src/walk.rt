@@ -1,7 +1,9 @@
 // The map walk: reads every entry, and leaves the offsets of the keys in the lent table, keys rising.
 use keys::sort::Duplicate;
 use keys::sort::settle;
+use wire::count::Count;
 use wire::count::CountRead;
+use wire::count::long_one;
 use wire::count::read_count;
 use wire::number::is_short;
 use wire::refusal::Refusal;
@@ -12,15 +14,15 @@ use wire::word::check_word;
 ghost use mathlib.Core.Path.{_≡_};
 ghost use lib.ListN.{length, replicate};
 ghost use Rattle.advice.specs.Walk.{walkOutcome, keyTable};
-ghost use Rattle.advice.specs.Inner.{valuesOutcome, shownValues, entryEndOutcome, shownEntryEnd, entriesOutcome, entriesTable, FilledTo};
+ghost use Rattle.advice.specs.Inner.{lengthOutcome, valuesOutcome, shownValues, lengthEndOutcome, entryEndOutcome, shownEntryEnd, entriesOutcome, entriesTable, FilledTo};
 ghost use Rattle.advice.specs.Shown.{shownWalk};
 
 // The greatest length whose values take at most 2^64 - 1 bytes.
 const LENGTH_MAX: usize = 0x1FFF_FFFF_FFFF_FFFF;
 
-// The number of entries and the place after the map, or why it is none.
+// The number of entries, the place after the map and how many of its counts are long, or why it is none.
 pub enum MapWalk {
-    Walked(usize, Cursor),
+    Walked(usize, Cursor, usize),
     Refused(Refusal, ByteOffset),
 }
 
@@ -30,15 +32,15 @@ pub(crate) enum ValuesRead {
     Refused(Refusal, ByteOffset),
 }
 
-// The place after an entry, or why there is none.
+// The place after an entry and whether its length is the shortest, or why there is none.
 enum EntryEnd {
-    Whole(Cursor),
+    Whole(Cursor, bool),
     Refused(Refusal, ByteOffset),
 }
 
-// Why no more keys are filled in.
+// Why no more keys are filled in: the map ends, with so many long counts, or something is refused.
 enum Stop {
-    End(Cursor),
+    End(Cursor, usize),
     Refused(Refusal, ByteOffset),
 }
 
@@ -48,22 +50,50 @@ struct Filled {
     stop: Stop,
 }
 
-// The length at a place, and its values, which are not judged.
+// The values of a length that was read at a place, which start at `from`; they are not judged.
+fn values_from(s: &[u8], at: ByteOffset, length: Count, from: ByteOffset) -> ValuesRead
+    ensures { λ r. ⌜ shownValues r ≡ lengthOutcome (now (s .entry)) (at .0) (record { value = length; next = from .0 }) ⌝ }
+{
+    let len = length.value as usize;
+    if LENGTH_MAX < len {
+        return ValuesRead::Refused(Refusal::Overflow, at);
+    }
+    if is_short(s, from, 8 * len) {
+        return ValuesRead::Refused(Refusal::Short, from);
+    }
+    ValuesRead::Whole(from, len)
+}
+
+// The length at a place, and its values.
 pub(crate) fn read_values(s: &[u8], at: ByteOffset) -> ValuesRead
     ensures { λ r. ⌜ shownValues r ≡ valuesOutcome (now (s .entry)) (at .0) ⌝ }
 {
     match read_count(s, at) {
         CountRead::Refused(why, place) => ValuesRead::Refused(why, place),
-        CountRead::Whole(count, next) => {
-            let len = count.value as usize;
+        CountRead::Whole(length, next) => {
             let from = next.at;
-            if LENGTH_MAX < len {
-                return ValuesRead::Refused(Refusal::Overflow, at);
+            values_from(s, at, length, from)
+        }
+    }
+}
+
+// The same for the walk, which also asks whether the length is the shortest, and where its values end.
+fn read_length(s: &[u8], at: ByteOffset) -> EntryEnd
+    ensures { λ r. ⌜ shownEntryEnd r ≡ lengthEndOutcome (now (s .entry)) (at .0) ⌝ }
+{
+    match read_count(s, at) {
+        CountRead::Refused(why, place) => EntryEnd::Refused(why, place),
+        CountRead::Whole(length, next) => {
+            let from = next.at;
+            match values_from(s, at, length, from) {
+                ValuesRead::Refused(why, place) => EntryEnd::Refused(why, place),
+                ValuesRead::Whole(values, len) => {
+                    let end = Cursor {
+                        at: ByteOffset(values.0 + 8 * len),
+                    };
+                    EntryEnd::Whole(end, length.shortest)
+                }
             }
-            if is_short(s, from, 8 * len) {
-                return ValuesRead::Refused(Refusal::Short, from);
-            }
-            ValuesRead::Whole(from, len)
         }
     }
 }
@@ -76,22 +106,20 @@ fn read_map_entry(s: &[u8], at: ByteOffset) -> EntryEnd
         WordCheck::Refused(why, place) => EntryEnd::Refused(why, place),
         WordCheck::Whole(next) => {
             let length = next.at;
-            match read_values(s, length) {
-                ValuesRead::Refused(why, place) => EntryEnd::Refused(why, place),
-                ValuesRead::Whole(values, len) => EntryEnd::Whole(Cursor {
-                    at: ByteOffset(values.0 + 8 * len),
-                }),
-            }
+            read_length(s, length)
         }
     }
 }
 
-// Fills in the offsets of n keys as they come, up to the first entry that is refused. Duplicates are left for later.
-fn fill(s: &[u8], at: ByteOffset, n: usize, keys: &mut [u64]) -> Filled
-    ensures { λ r. ⌜ FilledTo (now (s .entry)) (at .0) n (now (keys .entry)) (now (keys .exit)) r ⌝ }
+// Fills in the offsets of a map's keys as they come, up to the first entry that is refused, and counts the long counts.
+// Duplicates are left for later.
+fn fill(s: &[u8], at: ByteOffset, count: Count, keys: &mut [u64]) -> Filled
+    ensures { λ r. ⌜ FilledTo (now (s .entry)) (at .0) count (now (keys .entry)) (now (keys .exit)) r ⌝ }
 {
+    let n = count.value as usize;
     let mut i: usize = 0;
     let mut from = at.0;
+    let mut long = long_one(count.shortest);
     while i < n {
         if keys.len() <= i {
             return Filled {
@@ -106,18 +134,20 @@ fn fill(s: &[u8], at: ByteOffset, n: usize, keys: &mut [u64]) -> Filled
                     stop: Stop::Refused(why, place),
                 };
             }
-            EntryEnd::Whole(next) => {
+            EntryEnd::Whole(next, shortest) => {
                 keys[i] = from as u64;
                 from = next.at.0;
+                long += long_one(shortest);
                 i += 1;
             }
         }
     }
+    let end = Cursor {
+        at: ByteOffset(from),
+    };
     Filled {
         n: i,
-        stop: Stop::End(Cursor {
-            at: ByteOffset(from),
-        }),
+        stop: Stop::End(end, long),
     }
 }
 
@@ -131,12 +161,13 @@ fn clear(keys: &mut [u64])
     }
 }
 
-// The walk over n entries. A duplicate among the entries that were read comes before what stopped the reading.
-fn walk_entries(s: &[u8], at: ByteOffset, n: usize, keys: &mut [u64]) -> MapWalk
-    ensures { λ r. ⌜ shownWalk r ≡ entriesOutcome (length (now (keys .entry))) (now (s .entry)) (at .0) n ⌝ }
-    ensures { λ _. ⌜ now (keys .exit) ≡ entriesTable (now (s .entry)) (at .0) n (now (keys .entry)) ⌝ }
+// The walk over the entries of a map with this count. A duplicate among those that were read comes before what stopped
+// the reading.
+fn walk_entries(s: &[u8], at: ByteOffset, count: Count, keys: &mut [u64]) -> MapWalk
+    ensures { λ r. ⌜ shownWalk r ≡ entriesOutcome (length (now (keys .entry))) (now (s .entry)) (at .0) count ⌝ }
+    ensures { λ _. ⌜ now (keys .exit) ≡ entriesTable (now (s .entry)) (at .0) count (now (keys .entry)) ⌝ }
 {
-    let filled = fill(s, at, n, keys);
+    let filled = fill(s, at, count, keys);
     let k = filled.n;
     let stop = filled.stop;
     match settle(s, &mut keys[..k]) {
@@ -149,7 +180,7 @@ fn walk_entries(s: &[u8], at: ByteOffset, n: usize, keys: &mut [u64]) -> MapWalk
                 clear(keys);
                 MapWalk::Refused(why, place)
             }
-            Stop::End(end) => MapWalk::Walked(k, end),
+            Stop::End(end, long) => MapWalk::Walked(k, end, long),
         },
     }
 }
@@ -167,7 +198,7 @@ pub fn walk_map(s: &[u8], at: ByteOffset, keys: &mut [u64]) -> MapWalk
         }
         CountRead::Whole(count, next) => {
             let first = next.at;
-            walk_entries(s, first, count.value as usize, keys)
+            walk_entries(s, first, count, keys)
         }
     }
 }

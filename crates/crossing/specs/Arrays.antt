@@ -1,11 +1,12 @@
 -- Arrays of fixed length, and what they stand for. The length is the type's: a place past the end does not occur, and would read as 0.
 use Prim.Native.Nat.{ℕ}
-use mathlib.Core.List.{List, [], _∷_}
+use mathlib.Core.List.{List, [], _∷_, _++_}
 use lib.Dec.{eqb}
 use lib.ListN.{getD}
 use Rattle.wire.specs.Table.{pick}
 use Rattle.info.specs.declared.MastNodeEntry.{MastNodeEntry}
 use Rattle.info.specs.Node.{kindOf, numbersOf}
+use Rattle.layout.specs.Scan.{Scanned}
 use Rattle.layout.specs.declared.facts.FormatFacts.{FormatFacts}
 use Rattle.layout.specs.declared.facts.Bound.{Bound}
 use Rattle.layout.specs.declared.facts.Bound.the-variants.{None, Bytes}
@@ -79,6 +80,10 @@ layoutRow l =
     ∷ hashPlace (l .«node_hash_offset»)
     ∷ l .«advice_map_offset» .0
     ∷ []
+
+-- the layout's, and how many of the scan's counts are long
+abbrev pub scannedRow : Scanned → List ℕ
+scannedRow x = layoutRow (x .layout) ++ (x .long ∷ [])
 
 -- 1 and the bytes, or 0 and 0
 abbrev pub boundRow : Bound → List ℕ

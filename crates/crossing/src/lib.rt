@@ -7,7 +7,7 @@ use layout::forest::HashSection;
 use wire::units::ByteOffset;
 use wire::units::Slot;
 ghost use mathlib.Core.Path.{_≡_};
-ghost use Rattle.crossing.specs.Arrays.{factsOf, hashesOf, layoutOf, boundOf, hashFlag, hashPlace, layoutRow, boundRow, entryRow};
+ghost use Rattle.crossing.specs.Arrays.{factsOf, hashesOf, layoutOf, boundOf, hashFlag, hashPlace, layoutRow, scannedRow, boundRow, entryRow};
 
 // Nine bytes: magic, version, the hashless mask, the reserved mask; and the node maximum.
 pub fn facts_of(marks: &[u8; 9], max_nodes: usize) -> FormatFacts
@@ -89,6 +89,28 @@ pub fn layout_row(l: ForestLayout) -> [u64; 12]
         flag,
         place,
         l.advice_map_offset.0 as u64,
+    ]
+}
+
+// The thirteen numbers of a scan's answer: the layout's, and how many counts are long.
+pub fn scanned_row(l: ForestLayout, long: usize) -> [u64; 13]
+    ensures { λ r. ⌜ r ≡ scannedRow (record { layout = l; long = long }) ⌝ }
+{
+    let row = layout_row(l);
+    [
+        row[0],
+        row[1],
+        row[2],
+        row[3],
+        row[4],
+        row[5],
+        row[6],
+        row[7],
+        row[8],
+        row[9],
+        row[10],
+        row[11],
+        long as u64,
     ]
 }
 

@@ -38,7 +38,7 @@ module _ (f : FormatFacts) (s : List ℕ) (allow : Bool) (bound : Bound) (unmet 
   l = layoutShown f s allow bound
 
   count-read : (at : ℕ) → countRule s at .met ≡ false → Reads s at (counted s at .len) (counted s at .value)
-  unfolding countOutcome
+  unfolding countOutcome counted
   count-read at e = none-accepted (countRule s at ∷ []) (record { value = counted s at; next = at + counted s at .len }) (e, tt)
 
   pub end-to-end : EndToEnd f s l

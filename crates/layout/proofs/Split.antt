@@ -9,17 +9,16 @@ use lib.Count.{ones}
 use lib.Dec.{ltb, eqb}
 use lib.ListN.{length, getD}
 use Rattle.wire.specs.Table.{Rule, firstMet, noneMet, At}
-use Rattle.wire.specs.Counts.{counted, countRule, countOutcome}
+use Rattle.wire.specs.Counts.{longOnes, counted, countRule, countOutcome}
 use Rattle.wire.specs.declared.count.Count.{Count}
 use Rattle.wire.proofs.Tables.{none-parts}
 use Rattle.wire.proofs.Stages.{in-turn, in-the-end}
 use Rattle.layout.specs.Facts.{share, badFormat}
-use Rattle.layout.specs.Scan.{scanRules, scanOutcome}
+use Rattle.layout.specs.Scan.{Scanned, scanRules, scanOutcome}
 use Rattle.layout.proofs.Tests.{or-right}
-use Rattle.layout.specs.Steps.{preambleRules, markRules, sizeRules, budgetRules, rootSectionRules, sectionRules, entrySectionRules, fixedOf, layoutOf, entriesOutcome, blocksOutcome, rootsOutcome, sizedOutcome, countsOutcome, stagesOutcome}
+use Rattle.layout.specs.Steps.{preambleRules, markRules, sizeRules, budgetRules, rootSectionRules, sectionRules, entrySectionRules, fixedOf, scannedOf, entriesOutcome, blocksOutcome, rootsOutcome, sizedOutcome, countsOutcome, stagesOutcome}
 use Rattle.layout.specs.declared.facts.FormatFacts.{FormatFacts}
 use Rattle.layout.specs.declared.facts.Bound.{Bound}
-use Rattle.layout.specs.declared.forest.ForestLayout.{ForestLayout}
 use Rattle.layout.specs.declared.scan.Head.{Head}
 use Rattle.layout.specs.declared.scan.Section.{Section}
 
@@ -29,10 +28,19 @@ module _ (bound : Bound) (s : List ℕ) where
   countAt at = record { value = counted s at; next = at + counted s at .len }
 
   abbrev sectionOf : At Count → Section
-  sectionOf c = record { count = c .value .value; at = record { 0 = c .next } }
+  sectionOf c = record { count = c .value .value; at = record { 0 = c .next }; shortest = c .value .shortest }
 
   abbrev headOf : Bool → At Count → At Count → Head
-  headOf hashless i e = record { hashless = hashless; internal = i .value .value; external = e .value .value; «external_at» = record { 0 = i .next }; «roots_at» = record { 0 = e .next } }
+  headOf hashless i e =
+      record {
+        hashless = hashless;
+        internal = i .value .value;
+        external = e .value .value;
+        «internal_shortest» = i .value .shortest;
+        «external_shortest» = e .value .shortest;
+        «external_at» = record { 0 = i .next };
+        «roots_at» = record { 0 = e .next };
+      }
 
   -- the rules from a stage on
   module _ (h : Head) where
@@ -50,28 +58,28 @@ module _ (bound : Bound) (s : List ℕ) where
         rootSectionRules bound (h .«roots_at» .0) (c .value .value) (c .next) s
         ++ ((countRule s (start (sectionOf c)) ∷ []) ++ blocksOn (sectionOf c) (countAt (start (sectionOf c))))
 
-    entries-split : (roots blocks : Section) → firstMet (entriesOn roots blocks) (layoutOf h roots blocks) ≡ entriesOutcome h roots blocks s
+    entries-split : (roots blocks : Section) → firstMet (entriesOn roots blocks) (scannedOf h roots blocks) ≡ entriesOutcome h roots blocks s
     unfolding entriesOutcome
-    entries-split roots blocks = in-the-end (entriesOn roots blocks) tt (λ _. layoutOf h roots blocks)
+    entries-split roots blocks = in-the-end (entriesOn roots blocks) tt (λ _. scannedOf h roots blocks)
 
     blocks-split : (roots : Section)
-        → firstMet ((countRule s (start roots) ∷ []) ++ blocksOn roots (countAt (start roots))) (layoutOf h roots (sectionOf (countAt (start roots))))
+        → firstMet ((countRule s (start roots) ∷ []) ++ blocksOn roots (countAt (start roots))) (scannedOf h roots (sectionOf (countAt (start roots))))
         ≡ blocksOutcome bound h roots s
     unfolding blocksOutcome countOutcome
     blocks-split roots =
-        in-turn (countRule s (start roots) ∷ []) (countAt (start roots)) (blocksOn roots) (λ c. layoutOf h roots (sectionOf c)) _
-        (λ c. in-turn (sectionRules bound (start roots) (c .value .value) (c .next) (fixedOf h) s) tt (λ _. entriesOn roots (sectionOf c)) (λ _. layoutOf h roots (sectionOf c)) _
+        in-turn (countRule s (start roots) ∷ []) (countAt (start roots)) (blocksOn roots) (λ c. scannedOf h roots (sectionOf c)) _
+        (λ c. in-turn (sectionRules bound (start roots) (c .value .value) (c .next) (fixedOf h) s) tt (λ _. entriesOn roots (sectionOf c)) (λ _. scannedOf h roots (sectionOf c)) _
         (λ _. entries-split roots (sectionOf c)))
 
-    abbrev layoutFrom : At Count → ForestLayout
-    layoutFrom c = layoutOf h (sectionOf c) (sectionOf (countAt (start (sectionOf c))))
+    abbrev scannedFrom : At Count → Scanned
+    scannedFrom c = scannedOf h (sectionOf c) (sectionOf (countAt (start (sectionOf c))))
 
-    roots-split : firstMet ((countRule s (h .«roots_at» .0) ∷ []) ++ rootsOn (countAt (h .«roots_at» .0))) (layoutFrom (countAt (h .«roots_at» .0))) ≡ rootsOutcome bound h s
+    roots-split : firstMet ((countRule s (h .«roots_at» .0) ∷ []) ++ rootsOn (countAt (h .«roots_at» .0))) (scannedFrom (countAt (h .«roots_at» .0))) ≡ rootsOutcome bound h s
     unfolding rootsOutcome countOutcome
     roots-split =
-        in-turn (countRule s (h .«roots_at» .0) ∷ []) (countAt (h .«roots_at» .0)) rootsOn layoutFrom _
+        in-turn (countRule s (h .«roots_at» .0) ∷ []) (countAt (h .«roots_at» .0)) rootsOn scannedFrom _
         (λ c. in-turn (rootSectionRules bound (h .«roots_at» .0) (c .value .value) (c .next) s) tt
-        (λ _. (countRule s (start (sectionOf c)) ∷ []) ++ blocksOn (sectionOf c) (countAt (start (sectionOf c)))) (λ _. layoutFrom c) _
+        (λ _. (countRule s (start (sectionOf c)) ∷ []) ++ blocksOn (sectionOf c) (countAt (start (sectionOf c)))) (λ _. scannedFrom c) _
         (λ _. blocks-split (sectionOf c)))
 
   module _ (f : FormatFacts) (hashless : Bool) where
@@ -80,28 +88,28 @@ module _ (bound : Bound) (s : List ℕ) where
         sizeRules f (h .internal) (h .external)
         ++ (budgetRules bound (h .hashless) (h .internal) (h .external) ++ ((countRule s (h .«roots_at» .0) ∷ []) ++ rootsOn h (countAt (h .«roots_at» .0))))
 
-    abbrev layoutAt : Head → ForestLayout
-    layoutAt h = layoutFrom h (countAt (h .«roots_at» .0))
+    abbrev scannedAt : Head → Scanned
+    scannedAt h = scannedFrom h (countAt (h .«roots_at» .0))
 
-    sized-split : (h : Head) → firstMet (sizedOn h) (layoutAt h) ≡ sizedOutcome f bound h s
+    sized-split : (h : Head) → firstMet (sizedOn h) (scannedAt h) ≡ sizedOutcome f bound h s
     unfolding sizedOutcome
     sized-split h =
         in-turn (sizeRules f (h .internal) (h .external)) tt
-        (λ _. budgetRules bound (h .hashless) (h .internal) (h .external) ++ ((countRule s (h .«roots_at» .0) ∷ []) ++ rootsOn h (countAt (h .«roots_at» .0)))) (λ _. layoutAt h) _
-        (λ _. in-turn (budgetRules bound (h .hashless) (h .internal) (h .external)) tt (λ _. (countRule s (h .«roots_at» .0) ∷ []) ++ rootsOn h (countAt (h .«roots_at» .0))) (λ _. layoutAt h) _
+        (λ _. budgetRules bound (h .hashless) (h .internal) (h .external) ++ ((countRule s (h .«roots_at» .0) ∷ []) ++ rootsOn h (countAt (h .«roots_at» .0)))) (λ _. scannedAt h) _
+        (λ _. in-turn (budgetRules bound (h .hashless) (h .internal) (h .external)) tt (λ _. (countRule s (h .«roots_at» .0) ∷ []) ++ rootsOn h (countAt (h .«roots_at» .0))) (λ _. scannedAt h) _
         (λ _. roots-split h))
 
     abbrev externalOn : At Count → List Rule
     externalOn i = (countRule s (i .next) ∷ []) ++ sizedOn (headOf hashless i (countAt (i .next)))
 
-    abbrev layoutBy : At Count → ForestLayout
-    layoutBy i = layoutAt (headOf hashless i (countAt (i .next)))
+    abbrev scannedBy : At Count → Scanned
+    scannedBy i = scannedAt (headOf hashless i (countAt (i .next)))
 
-    counts-split : firstMet ((countRule s 8 ∷ []) ++ externalOn (countAt 8)) (layoutBy (countAt 8)) ≡ countsOutcome f bound hashless s
+    counts-split : firstMet ((countRule s 8 ∷ []) ++ externalOn (countAt 8)) (scannedBy (countAt 8)) ≡ countsOutcome f bound hashless s
     unfolding countsOutcome countOutcome
     counts-split =
-        in-turn (countRule s 8 ∷ []) (countAt 8) externalOn layoutBy _
-        (λ i. in-turn (countRule s (i .next) ∷ []) (countAt (i .next)) (λ e. sizedOn (headOf hashless i e)) (λ e. layoutAt (headOf hashless i e)) _
+        in-turn (countRule s 8 ∷ []) (countAt 8) externalOn scannedBy _
+        (λ i. in-turn (countRule s (i .next) ∷ []) (countAt (i .next)) (λ e. sizedOn (headOf hashless i e)) (λ e. scannedAt (headOf hashless i e)) _
         (λ e. sized-split (headOf hashless i e)))
 
 module _ (f : FormatFacts) (s : List ℕ) (allow : Bool) (bound : Bound) where
@@ -117,9 +125,9 @@ module _ (f : FormatFacts) (s : List ℕ) (allow : Bool) (bound : Bound) where
   segments = refl
 
   pub split : scanOutcome f s allow bound ≡ stagesOutcome f allow bound s
-  unfolding scanOutcome stagesOutcome
+  unfolding scanOutcome stagesOutcome longOnes
   split =
-      let v = layoutBy bound s f hashlessOf (countAt bound s 8) in
+      let v = scannedBy bound s f hashlessOf (countAt bound s 8) in
       rw segments
       (in-turn (preambleRules f s) tt (λ _. markRules f allow s ++ countsOn) (λ _. v) _
       (λ _. in-turn (markRules f allow s) tt (λ _. countsOn) (λ _. v) _

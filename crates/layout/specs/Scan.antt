@@ -1,4 +1,4 @@
--- The scan, in its order: the rules one line each, and what an accepted file's layout is.
+-- The scan, in its order: the rules one line each, and what an accepted file's layout and its number of long counts are.
 -- Every read is total: past the end a byte reads as 0, and a rule before it has refused.
 use Prim.Native.Nat.{ℕ, _+_, _*_}
 use mathlib.Core.Bool.{Bool, not, _&&_}
@@ -9,7 +9,7 @@ use lib.Seq.{slice}
 use Rattle.wire.specs.Table.{Rule, rule, Outcome, pick, firstMet}
 use Rattle.wire.specs.Refusals.{MAGIC, VERSION, FLAGS, HASHLESS, OVERFLOW, TOO-MANY, BUDGET, EXTERNALS, FORMAT}
 use Rattle.wire.specs.Le.{shortRule, over}
-use Rattle.wire.specs.Counts.{counted, countRule}
+use Rattle.wire.specs.Counts.{longOnes, counted, countRule}
 use Rattle.wire.specs.Rows.{numbersOf, differs}
 use Rattle.wire.specs.declared.count.Count.{Count}
 use Rattle.info.specs.Node.{isExternal}
@@ -20,6 +20,11 @@ use Rattle.layout.specs.declared.facts.Bound.{Bound}
 use Rattle.layout.specs.declared.forest.HashSection.{HashSection}
 use Rattle.layout.specs.declared.forest.HashSection.the-variants.{At, Absent}
 use Rattle.layout.specs.declared.forest.ForestLayout.{ForestLayout}
+
+-- what an accepted file gives: its layout, and how many of its four counts are long
+pub record Scanned : Type 0 where
+  pub layout : ForestLayout
+  pub long : ℕ
 
 -- ---- entries from first to last
 
@@ -98,6 +103,10 @@ module _ (f : FormatFacts) (s : List ℕ) where
   abbrev pub words : List ℕ
   words = numbersOf 8 nodes (slice entriesAt digestsAt s)
 
+  -- the four counts, in the file's order
+  abbrev pub headCounts : List Count
+  headCounts = internal ∷ external ∷ roots ∷ blocks ∷ []
+
   -- ---- the table
 
   module _ (allow : Bool) (bound : Bound) where
@@ -147,5 +156,8 @@ module _ (f : FormatFacts) (s : List ℕ) where
           «advice_map_offset» = record { 0 = mapAt };
         }
 
-    unfoldable pub scanOutcome : Outcome ForestLayout
-    scanOutcome = firstMet scanRules layoutShown
+    abbrev pub scanShown : Scanned
+    scanShown = record { layout = layoutShown; long = longOnes headCounts }
+
+    unfoldable pub scanOutcome : Outcome Scanned
+    scanOutcome = firstMet scanRules scanShown

@@ -6,13 +6,13 @@ use mathlib.Core.List.{List, [], _∷_, _++_}
 use lib.Dec.{ltb, eqb}
 use lib.ListN.{length, getD}
 use lib.Seq.{slice}
-use Rattle.wire.specs.Table.{Rule, rule, Outcome, accepted, checked, _>>=_}
+use Rattle.wire.specs.Table.{Rule, rule, Outcome, accepted, pick, checked, _>>=_}
 use Rattle.wire.specs.Refusals.{SHORT, MAGIC, VERSION, FLAGS, HASHLESS, OVERFLOW, TOO-MANY, BUDGET, EXTERNALS, FORMAT}
 use Rattle.wire.specs.Le.{shortRule, over}
 use Rattle.wire.specs.Counts.{countOutcome}
 use Rattle.wire.specs.Rows.{numbersOf, differs}
 use Rattle.layout.specs.Facts.{share, badFormat, overBudget, hashBytes}
-use Rattle.layout.specs.Scan.{wordsRules, externals, sectionAt}
+use Rattle.layout.specs.Scan.{Scanned, wordsRules, externals, sectionAt}
 use Rattle.layout.specs.declared.facts.FormatFacts.{FormatFacts}
 use Rattle.layout.specs.declared.facts.Bound.{Bound}
 use Rattle.layout.specs.declared.forest.ForestLayout.{ForestLayout}
@@ -96,42 +96,57 @@ layoutOf h roots blocks =
       «advice_map_offset» = record { 0 = hashes + hashBytes (h .hashless) (h .internal) };
     }
 
+-- how many of the four counts are long
+abbrev pub longOf : Head → Section → Section → ℕ
+longOf h roots blocks = pick (h .«internal_shortest») 0 1 + (pick (h .«external_shortest») 0 1 + (pick (roots .shortest) 0 1 + (pick (blocks .shortest) 0 1 + 0)))
+
+abbrev pub scannedOf : Head → Section → Section → Scanned
+scannedOf h roots blocks = record { layout = layoutOf h roots blocks; long = longOf h roots blocks }
+
 -- ---- the stages in a row
 
-unfoldable pub entriesOutcome : Head → Section → Section → List ℕ → Outcome ForestLayout
+unfoldable pub entriesOutcome : Head → Section → Section → List ℕ → Outcome Scanned
 entriesOutcome h roots blocks s =
     checked (entrySectionRules (blocks .at .0 + blocks .count) (h .internal + h .external) (h .external) (h .«external_at» .0) s)
-    >>= (λ _. accepted (layoutOf h roots blocks))
+    >>= (λ _. accepted (scannedOf h roots blocks))
 
-unfoldable pub blocksOutcome : Bound → Head → Section → List ℕ → Outcome ForestLayout
+unfoldable pub blocksOutcome : Bound → Head → Section → List ℕ → Outcome Scanned
 blocksOutcome bound h roots s =
     let start = roots .at .0 + 4 * roots .count in
     countOutcome s start
     >>= (λ c. checked (sectionRules bound start (c .value .value) (c .next) (fixedOf h) s)
-    >>= (λ _. entriesOutcome h roots (record { count = c .value .value; at = record { 0 = c .next } }) s))
+    >>= (λ _. entriesOutcome h roots (record { count = c .value .value; at = record { 0 = c .next }; shortest = c .value .shortest }) s))
 
-unfoldable pub rootsOutcome : Bound → Head → List ℕ → Outcome ForestLayout
+unfoldable pub rootsOutcome : Bound → Head → List ℕ → Outcome Scanned
 rootsOutcome bound h s =
     countOutcome s (h .«roots_at» .0)
     >>= (λ c. checked (rootSectionRules bound (h .«roots_at» .0) (c .value .value) (c .next) s)
-    >>= (λ _. blocksOutcome bound h (record { count = c .value .value; at = record { 0 = c .next } }) s))
+    >>= (λ _. blocksOutcome bound h (record { count = c .value .value; at = record { 0 = c .next }; shortest = c .value .shortest }) s))
 
-unfoldable pub sizedOutcome : FormatFacts → Bound → Head → List ℕ → Outcome ForestLayout
+unfoldable pub sizedOutcome : FormatFacts → Bound → Head → List ℕ → Outcome Scanned
 sizedOutcome f bound h s =
     checked (sizeRules f (h .internal) (h .external))
     >>= (λ _. checked (budgetRules bound (h .hashless) (h .internal) (h .external))
     >>= (λ _. rootsOutcome bound h s))
 
-unfoldable pub countsOutcome : FormatFacts → Bound → Bool → List ℕ → Outcome ForestLayout
+unfoldable pub countsOutcome : FormatFacts → Bound → Bool → List ℕ → Outcome Scanned
 countsOutcome f bound hashless s =
     countOutcome s 8
     >>= (λ i. countOutcome s (i .next)
     >>= (λ e.
     sizedOutcome f bound
-    (record { hashless = hashless; internal = i .value .value; external = e .value .value; «external_at» = record { 0 = i .next }; «roots_at» = record { 0 = e .next } })
+    (record {
+      hashless = hashless;
+      internal = i .value .value;
+      external = e .value .value;
+      «internal_shortest» = i .value .shortest;
+      «external_shortest» = e .value .shortest;
+      «external_at» = record { 0 = i .next };
+      «roots_at» = record { 0 = e .next };
+    })
     s))
 
-unfoldable pub stagesOutcome : FormatFacts → Bool → Bound → List ℕ → Outcome ForestLayout
+unfoldable pub stagesOutcome : FormatFacts → Bool → Bound → List ℕ → Outcome Scanned
 stagesOutcome f allow bound s =
     checked (preambleRules f s)
     >>= (λ _. checked (markRules f allow s)

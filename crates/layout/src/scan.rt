@@ -10,6 +10,7 @@ use crate::forest::HashSection;
 use rows::EntryPass;
 use rows::read_entries;
 use wire::count::CountRead;
+use wire::count::long_one;
 use wire::count::read_count;
 use wire::number::is_short;
 use wire::refusal::Refusal;
@@ -24,14 +25,14 @@ ghost use Rattle.layout.specs.Facts.{hashBytes};
 ghost use Rattle.layout.specs.Given.{Given};
 ghost use Rattle.layout.specs.Scan.{sectionAt, scanOutcome};
 ghost use Rattle.layout.specs.Steps.{preambleRules, markRules, sizeRules, budgetRules, rootSectionRules, sectionRules, entrySectionRules};
-ghost use Rattle.layout.specs.Steps.{fixedOf, layoutOf, countsOutcome, sizedOutcome, rootsOutcome, blocksOutcome, entriesOutcome};
+ghost use Rattle.layout.specs.Steps.{fixedOf, layoutOf, longOf, countsOutcome, sizedOutcome, rootsOutcome, blocksOutcome, entriesOutcome};
 ghost use Rattle.layout.specs.Shown.{shownScan, shownCheck};
 
 const MAX: usize = 0xFFFF_FFFF_FFFF_FFFF;
 
-// The layout of a file, or why it is refused.
+// The layout of a file and how many of its four counts are long, or why it is refused.
 pub enum Scan {
-    Accepted(ForestLayout),
+    Accepted(ForestLayout, usize),
     Refused(Refusal, ByteOffset),
 }
 
@@ -41,19 +42,23 @@ enum Check {
     Refused(Refusal, ByteOffset),
 }
 
-// What the header and the two node counts say; where the external count starts, and where the roots'.
+// What the header and the two node counts say, and whether these are the shortest; where the external
+// count starts, and where the roots'.
 struct Head {
     hashless: bool,
     internal: usize,
     external: usize,
+    internal_shortest: bool,
+    external_shortest: bool,
     external_at: ByteOffset,
     roots_at: ByteOffset,
 }
 
-// A section: how many things, and where the first one is.
+// A section: how many things, and where the first one is; and whether their count is the shortest.
 struct Section {
     count: usize,
     at: ByteOffset,
+    shortest: bool,
 }
 
 // Whether the first 4 bytes are not the magic.
@@ -254,6 +259,16 @@ fn layout_of(head: Head, roots: Section, blocks: Section) -> ForestLayout
     }
 }
 
+// How many of the four counts are long.
+fn long_counts(head: Head, roots: Section, blocks: Section) -> usize
+    ensures { λ r. ⌜ r ≡ longOf head roots blocks ⌝ }
+{
+    long_one(head.internal_shortest)
+        + long_one(head.external_shortest)
+        + long_one(roots.shortest)
+        + long_one(blocks.shortest)
+}
+
 // The entries, and so the layout.
 fn scan_entries(head: Head, roots: Section, blocks: Section, s: &[u8]) -> Scan
     requires { ⌜ (head .internal + head .external ≤ 2 ^ 30) × (blocks .at .0 + (blocks .count + fixedOf head) ≤ length (now s)) ⌝ }
@@ -264,7 +279,8 @@ fn scan_entries(head: Head, roots: Section, blocks: Section, s: &[u8]) -> Scan
     if let Check::Refused(why, at) = entries {
         return Scan::Refused(why, at);
     }
-    Scan::Accepted(layout_of(head, roots, blocks))
+    let long = long_counts(head, roots, blocks);
+    Scan::Accepted(layout_of(head, roots, blocks), long)
 }
 
 // The block length and all that it covers, and what depends on it.
@@ -280,6 +296,7 @@ fn scan_blocks(bound: Bound, head: Head, roots: Section, s: &[u8]) -> Scan
             let blocks = Section {
                 count: length.value as usize,
                 at,
+                shortest: length.shortest,
             };
             let sections = check_sections(bound, start, blocks, fixed_bytes(head), s);
             if let Check::Refused(why, place) = sections {
@@ -303,6 +320,7 @@ fn scan_roots(bound: Bound, head: Head, s: &[u8]) -> Scan
             let roots = Section {
                 count: count.value as usize,
                 at,
+                shortest: count.shortest,
             };
             let rooted = check_roots(bound, start, roots, s);
             if let Check::Refused(why, place) = rooted {
@@ -346,6 +364,8 @@ fn scan_counts(f: FormatFacts, bound: Bound, hashless: bool, s: &[u8]) -> Scan
                         hashless,
                         internal: internal.value as usize,
                         external: external.value as usize,
+                        internal_shortest: internal.shortest,
+                        external_shortest: external.shortest,
                         external_at,
                         roots_at,
                     };

@@ -28,6 +28,6 @@ pub fn layout_page(s: &[u8], f: FormatFacts, keys: &mut [u64], out: &mut [u8]) -
     }
     match read_whole(s, f, true, Bound::None, keys) {
         WholeRead::Refused(why, at) => write_refusal(why, at, out),
-        WholeRead::Whole(l, _, end) => write_page(l, end, out),
+        WholeRead::Whole(l, _, end, _) => write_page(l, end, out),
     }
 }

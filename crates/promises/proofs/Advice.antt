@@ -19,10 +19,11 @@ use Rattle.wire.specs.declared.refusal.Refusal.the-variants.{Element, Room}
 use Rattle.wire.specs.declared.units.ByteOffset.{ByteOffset}
 use Rattle.wire.specs.declared.units.Cursor.{Cursor}
 use Rattle.wire.proofs.Tables.{none-accepted, rule-first, same-answer}
+use Rattle.wire.specs.Counts.{longOnes}
 use Rattle.wire.specs.Words.{fourAt, wordOrder}
 use Rattle.wire.specs.declared.word.WordOrder.the-variants.{Below}
 use Rattle.keys.specs.Keys.{seenKey}
-use Rattle.advice.specs.Walk.{size, valuesAt, shownKeys, Walked, walked, firstEntry, mapRules, walkOutcome, keyTable, Risen, EntryOf}
+use Rattle.advice.specs.Walk.{size, valuesAt, shownKeys, Walked, mapCounts, walked, firstEntry, mapRules, walkOutcome, keyTable, Risen, EntryOf}
 use Rattle.advice.specs.Lookup.{elementRules, found, absent, lookupOutcome, bitLength}
 use Rattle.advice.specs.Shown.{shownWalk, shownLookup}
 use Rattle.advice.specs.declared.walk.MapWalk.{MapWalk}
@@ -46,14 +47,14 @@ use Rattle.promises.proofs.Calls.{Walks, LooksUp, GivesPart, ReadsKey, 
 -- ---- the walk
 
 module _ (s : List ℕ) (at : ℕ) (t₀ t : List ℕ) (r : MapWalk) (promised : Walks s at t₀ t r) where
-  abbrev said : ℕ → Cursor → Walked
-  said n c = record { entries = n; end = c .at .0 }
+  abbrev said : ℕ → Cursor → ℕ → Walked
+  said n c long = record { entries = n; end = c .at .0; long = long }
 
-  pub accepts : (n : ℕ) (c : Cursor) → (r ≡ map.Walked n c) ↔ (noneMet (mapRules s at (length t₀)) × (walked s at ≡ said n c))
-  accepts n c =
-      let law = walk-accepts (length t₀) s at (said n c) in (
+  pub accepts : (n : ℕ) (c : Cursor) (long : ℕ) → (r ≡ map.Walked n c long) ↔ (noneMet (mapRules s at (length t₀)) × (walked s at ≡ said n c long))
+  accepts n c long =
+      let law = walk-accepts (length t₀) s at (said n c long) in (
         λ e. law .0 (sym (promised .answer) ∙ ap shownWalk e),
-        λ h. same-answer shownWalk walkBack walk-again _ r (map.Walked n c) (promised .answer) (sym (law .1 h)),
+        λ h. same-answer shownWalk walkBack walk-again _ r (map.Walked n c long) (promised .answer) (sym (law .1 h)),
       )
 
   pub refuses : (why : Refusal) (p : ByteOffset) → (r ≡ map.Refused why p) ↔ FirstMet (mapRules s at (length t₀)) (numberOf why) (p .0)
@@ -68,18 +69,22 @@ module _ (s : List ℕ) (at : ℕ) (t₀ t : List ℕ) (r : MapWalk) (promised :
   room-enough k needed h p e = never-room (length t₀) s at (p .0) (rw needed at h) (sym (promised .answer) ∙ ap shownWalk e)
 
   -- ---- over the table that an accepted walk left
-  module _ (n : ℕ) (c : Cursor) (taken : r ≡ map.Walked n c) where
-    walked′ : walkOutcome (length t₀) s at ≡ accepted (said n c)
+  module _ (n : ℕ) (c : Cursor) (long : ℕ) (taken : r ≡ map.Walked n c long) where
+    walked′ : walkOutcome (length t₀) s at ≡ accepted (said n c long)
     walked′ = sym (promised .answer) ∙ ap shownWalk taken
 
+    -- the number of long ones among the map's count and its lengths
+    pub long-counted : long ≡ longOnes (mapCounts s at)
+    long-counted = sym (ap (λ (w : Walked). w .long) (accepts n c long .0 taken .1))
+
     pub keys-risen : Risen s t n
-    keys-risen = rw (promised .table) (walk-risen s at t₀ (said n c) walked′)
+    keys-risen = rw (promised .table) (walk-risen s at t₀ (said n c long) walked′)
 
     -- ---- by place: the key and the entry there
     module _ (i : ℕ) (h : i < n) where
       module _ (x : KeyRead) (read : ReadsKey s t i x) where
         key-told : keyOutcome s t i ≡ accepted (fourAt s (getD (keyTable s at t₀) i 0))
-        key-told = ap (λ (u : List ℕ). keyOutcome s u i) (promised .table) ∙ key-read s at t₀ (said n c) walked′ i h
+        key-told = ap (λ (u : List ℕ). keyOutcome s u i) (promised .table) ∙ key-read s at t₀ (said n c long) walked′ i h
 
         key-beside : x .word ≡ fourAt s (getD (keyTable s at t₀) i 0)
         key-beside = read .1 ∙ ap keyOf key-told
@@ -87,7 +92,7 @@ module _ (s : List ℕ) (at : ℕ) (t₀ t : List ℕ) (r : MapWalk) (promised :
         pub key-there : (x .answer ≡ key.Key) × ((from : ℕ) × ((len : ℕ) × EntryOf s at n (x .word) from len))
         key-there =
             let k = getD (keyTable s at t₀) i 0 in
-            (sym (key-again (x .word) (x .answer)) ∙ ap keyBack (read .0 ∙ key-told), (valuesAt s k, (size s k .value, rw key-beside (entry-is s at t₀ (said n c) walked′ i h))))
+            (sym (key-again (x .word) (x .answer)) ∙ ap keyBack (read .0 ∙ key-told), (valuesAt s k, (size s k .value, rw key-beside (entry-is s at t₀ (said n c long) walked′ i h))))
 
         key-is : keyOutcome s t i ≡ accepted (x .word)
         key-is = key-told ∙ ap accepted (sym key-beside)
@@ -95,15 +100,15 @@ module _ (s : List ℕ) (at : ℕ) (t₀ t : List ℕ) (r : MapWalk) (promised :
       pub entry-there : (x : MapEntryRead) → ReadsMapEntry s t i x
           → (from : ByteOffset) × ((len : ℕ) × ((x .answer ≡ entry.Entry from len) × EntryOf s at n (x .word) (from .0) len))
       entry-there x read =
-          let e = ap (λ (u : List ℕ). mapEntryOutcome s u i) (promised .table) ∙ entry-read s at t₀ (said n c) walked′ i h in
+          let e = ap (λ (u : List ℕ). mapEntryOutcome s u i) (promised .table) ∙ entry-read s at t₀ (said n c long) walked′ i h in
           let word = read .1 ∙ ap entryKeyOf e in
-          (_, (_, (sym (entry-again (x .word) (x .answer)) ∙ ap entryBack (read .0 ∙ e), rw word (entry-is s at t₀ (said n c) walked′ i h))))
+          (_, (_, (sym (entry-again (x .word) (x .answer)) ∙ ap entryBack (read .0 ∙ e), rw word (entry-is s at t₀ (said n c long) walked′ i h))))
 
     -- each entry of the map has its place
     pub entry-placed : (key : List ℕ) (from len : ℕ) → EntryOf s at n key from len
         → (i : ℕ) × ((i < n) × ((x : MapEntryRead) → ReadsMapEntry s t i x → x ≡ record { answer = entry.Entry (record { 0 = from }) len; word = key }))
     entry-placed key from len is =
-        let p = placed.entry-placed s at t₀ (said n c) walked′ key from len is in
+        let p = placed.entry-placed s at t₀ (said n c long) walked′ key from len is in
         let e = ap (λ (u : List ℕ). mapEntryOutcome s u (p .0)) (promised .table) ∙ p .2 in
         (p .0, (p .1, λ x read. entry-one _ x (record { answer = entry.Entry (record { 0 = from }) len; word = key }) read (sym e, sym (ap entryKeyOf e))))
 
@@ -121,20 +126,20 @@ module _ (s : List ℕ) (at : ℕ) (t₀ t : List ℕ) (r : MapWalk) (promised :
       -- absent is said exactly if no entry has the key
       pub absent-if-none : ((k : ℕ) × (x ≡ look.Absent k)) ↔ (seenKey (shownKeys s (firstEntry s at) n) key ≡ false)
       absent-if-none =
-          let law = absent-exactly s at t₀ (said n c) walked′ key in (
+          let law = absent-exactly s at t₀ (said n c long) walked′ key in (
             λ k. law .0 (k .0, sym same ∙ sym looked ∙ ap shownLookup (k .1)),
             λ h. let k = law .1 h in (k .0, same-answer shownLookup lookupBack lookup-again _ x (look.Absent (k .0)) looked (sym (same ∙ k .1))),
           )
 
       -- what is found are the values of the entry that has the key
       pub found-values : (from : ByteOffset) (len k : ℕ) → x ≡ look.Found from len k → EntryOf s at n key (from .0) len
-      found-values from len k is = looked-up.found-entry s at t₀ (said n c) walked′ key (from .0) len k (sym same ∙ sym looked ∙ ap shownLookup is)
+      found-values from len k is = looked-up.found-entry s at t₀ (said n c long) walked′ key (from .0) len k (sym same ∙ sym looked ∙ ap shownLookup is)
 
       -- and the key of an entry is found at its values if they are elements, and else refused with ELEMENT at the first that is none
       pub entry-found : (from len : ℕ) → EntryOf s at n key from len
           → (noneMet (elementRules s from len) → (k : ℕ) × (x ≡ look.Found (record { 0 = from }) len k)) × ((p : ℕ) → FirstMet (elementRules s from len) ELEMENT p → x ≡ look.Refused Element p)
       entry-found from len e =
-          let law = looked-up.entry-found s at t₀ (said n c) walked′ key from len e in
+          let law = looked-up.entry-found s at t₀ (said n c long) walked′ key from len e in
           let v = found from len (law .0) in (
             λ none. (law .0, same-answer shownLookup lookupBack lookup-again _ x (look.Found (record { 0 = from }) len (law .0)) looked (sym (same ∙ law .1 ∙ none-accepted (elementRules s from len) v none))),
             λ p first. same-answer shownLookup lookupBack lookup-again _ x (look.Refused Element p) looked (sym (same ∙ law .1 ∙ rule-first (elementRules s from len) v ELEMENT p first)),

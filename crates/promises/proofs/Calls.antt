@@ -63,6 +63,10 @@ use Rattle.advice.proofs.TableStages.{Keyed, Entered}
 use Rattle.advice.proofs.table.key_at.Reads as key-at
 use Rattle.advice.proofs.table.entry_at.Reads as entry-at
 use Rattle.advice.proofs.table.most_places.Reads as most-places
+use Rattle.whole.specs.Whole.{wholeOutcome}
+use Rattle.whole.specs.Shown.{shownWhole}
+use Rattle.whole.specs.declared.WholeRead.{WholeRead}
+use Rattle.whole.proofs.read_whole.Reads as read-whole
 use Rattle.writer.specs.Parts.{Parts}
 use Rattle.writer.specs.Writer.{writeOutcome, outputAfter}
 use Rattle.writer.specs.Shown.{shownWrite, lent}
@@ -198,6 +202,14 @@ NeedsPlaces s at k = k ≡ placesNeeded s at
 
 pub needs-places : (κs : _) (a : _) (r : _) (e : _) → most-places.Post κs a r e → NeedsPlaces (now (a .0)) (a .1 .0 .0) r
 needs-places κs a r e p = p
+
+-- ---- scan and walk in a row
+
+abbrev pub ReadsWhole : List ℕ → FormatFacts → Bool → Bound → ℕ → WholeRead → Type 0
+ReadsWhole s f allow bound places r = shownWhole r ≡ wholeOutcome f allow bound places s
+
+pub reads-whole : (κs : _) (a : _) (r : _) (e : _) → read-whole.Post κs a r e → ReadsWhole (now (a .0)) (a .1 .0) (a .1 .1 .0) (a .1 .1 .1 .0) (length (now (a .1 .1 .1 .1 .0))) r
+reads-whole κs a r e p = p .0
 
 -- ---- the writer
 

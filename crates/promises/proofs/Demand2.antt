@@ -1,7 +1,7 @@
 -- Demand 2, its statements: what is so of an accepted file and of an accepted map, of entries, of the checks, and that there are accepted files.
 -- Each is proved by citing (Scan, Resolved, Checks, Advice, and the crates' own laws).
 -- Assumes nothing.
-use mathlib.Core.Path.{_≡_, sym, _∙_}
+use mathlib.Core.Path.{_≡_, sym, ap, _∙_}
 use mathlib.Core.Bool.{Bool, true, false}
 use mathlib.Core.List.{List, _++_}
 use mathlib.Core.Logic.{_⊎_, _↔_}
@@ -25,7 +25,7 @@ use Rattle.info.proofs.Answers.{decodedBack, decoded-again, encodedBack, encode
 use Rattle.info.proofs.Laws.{encoded-decodes, decoded-encodes, canonical-exactly}
 use Rattle.rows.specs.declared.RowEntry.{RowEntry}
 use Rattle.rows.specs.declared.RowEntry.the-variants as row
-use Rattle.layout.specs.Scan.{scanRules, layoutShown}
+use Rattle.layout.specs.Scan.{Scanned, scanRules, scanShown}
 use Rattle.layout.specs.Shown.{shownScan}
 use Rattle.layout.specs.Accepted.{EndToEnd, Counted}
 use Rattle.layout.specs.declared.facts.FormatFacts.{FormatFacts}
@@ -95,25 +95,25 @@ pub record AcceptedFile (f : FormatFacts) (s : List ℕ) (l : ForestLayout) : Ty
 
 -- the scan answered r
 pub record Demand2File (s : List ℕ) (f : FormatFacts) (allow : Bool) (bound : Bound) (r : Scan) : Type 0 where
-  pub accepts : (l : ForestLayout) → (r ≡ scan.Accepted l) ↔ (noneMet (scanRules f s allow bound) × (layoutShown f s allow bound ≡ l))
+  pub accepts : (l : ForestLayout) (long : ℕ) → (r ≡ scan.Accepted l long) ↔ (noneMet (scanRules f s allow bound) × (scanShown f s allow bound ≡ record { layout = l; long = long }))
   pub refuses : (why : Refusal) (at : ByteOffset) → (r ≡ scan.Refused why at) ↔ FirstMet (scanRules f s allow bound) (numberOf why) (at .0)
-  pub file : (l : ForestLayout) → r ≡ scan.Accepted l → AcceptedFile f s l
+  pub file : (l : ForestLayout) (long : ℕ) → r ≡ scan.Accepted l long → AcceptedFile f s l
 
 pub file-demanded : (s : List ℕ) (f : FormatFacts) (allow : Bool) (bound : Bound) (r : Scan) → Scans s f allow bound r → Demand2File s f allow bound r
 file-demanded s f allow bound r promised =
     record {
       accepts = of-scan.accepts s f allow bound r promised;
       refuses = of-scan.refuses s f allow bound r promised;
-      file = λ l taken.
+      file = λ l long taken.
           record {
-            sections = of-scan.sections-end-to-end s f allow bound r promised l taken;
-            counted = of-scan.nodes-counted s f allow bound r promised l taken;
-            entries = of-scan.every-entry s f allow bound r promised l taken;
-            roots = of-scan.every-root s f allow bound r promised l taken;
-            fills = of-slots.slots-fill s f allow bound r promised l taken;
+            sections = of-scan.sections-end-to-end s f allow bound r promised l long taken;
+            counted = of-scan.nodes-counted s f allow bound r promised l long taken;
+            entries = of-scan.every-entry s f allow bound r promised l long taken;
+            roots = of-scan.every-root s f allow bound r promised l long taken;
+            fills = of-slots.slots-fill s f allow bound r promised l long taken;
             slots = λ limit left t₀ t built i h.
-                (of-slots.slot-of-each s l limit left t₀ t built i h, of-slots.slot-below-count s f allow bound r promised l taken i h);
-            digests = of-slots.digest-of-each s f allow bound r promised l taken;
+                (of-slots.slot-of-each s l limit left t₀ t built i h, of-slots.slot-below-count s f allow bound r promised l long taken i h);
+            digests = of-slots.digest-of-each s f allow bound r promised l long taken;
             agree = of-slots.both-ways-agree s l;
           };
     }
@@ -122,28 +122,28 @@ file-demanded s f allow bound r promised =
 
 -- the walk answered r and left the table t, which was t₀
 pub record Demand2Map (s : List ℕ) (at : ℕ) (t₀ t : List ℕ) (r : MapWalk) : Type 0 where
-  pub accepts : (n : ℕ) (c : Cursor) → (r ≡ map.Walked n c) ↔ (noneMet (mapRules s at (length t₀)) × (walked s at ≡ record { entries = n; end = c .at .0 }))
+  pub accepts : (n : ℕ) (c : Cursor) (long : ℕ) → (r ≡ map.Walked n c long) ↔ (noneMet (mapRules s at (length t₀)) × (walked s at ≡ record { entries = n; end = c .at .0; long = long }))
   pub refuses : (why : Refusal) (p : ByteOffset) → (r ≡ map.Refused why p) ↔ FirstMet (mapRules s at (length t₀)) (numberOf why) (p .0)
   pub table : t ≡ keyTable s at t₀
   -- of an accepted map: the keys of the table's first n offsets are whole and rise
-  pub rises : (n : ℕ) (c : Cursor) → r ≡ map.Walked n c → Risen s t n
+  pub rises : (n : ℕ) (c : Cursor) (long : ℕ) → r ≡ map.Walked n c long → Risen s t n
   -- lookup says absent exactly if no entry has the key; what it finds are the values of the entry that has it; and the key of an entry is found
   -- at that entry's values if they are elements, and else refused with ELEMENT at the first that is none
-  pub absent : (n : ℕ) (c : Cursor) → r ≡ map.Walked n c → (key : List ℕ) (x : MapLookup) → LooksUp s t n key x
+  pub absent : (n : ℕ) (c : Cursor) (long : ℕ) → r ≡ map.Walked n c long → (key : List ℕ) (x : MapLookup) → LooksUp s t n key x
       → ((k : ℕ) × (x ≡ look.Absent k)) ↔ (seenKey (shownKeys s (firstEntry s at) n) key ≡ false)
-  pub found : (n : ℕ) (c : Cursor) → r ≡ map.Walked n c → (key : List ℕ) (x : MapLookup) → LooksUp s t n key x
+  pub found : (n : ℕ) (c : Cursor) (long : ℕ) → r ≡ map.Walked n c long → (key : List ℕ) (x : MapLookup) → LooksUp s t n key x
       → (from : ByteOffset) (len k : ℕ) → x ≡ look.Found from len k → EntryOf s at n key (from .0) len
-  pub present : (n : ℕ) (c : Cursor) → r ≡ map.Walked n c → (key : List ℕ) (x : MapLookup) → LooksUp s t n key x
+  pub present : (n : ℕ) (c : Cursor) (long : ℕ) → r ≡ map.Walked n c long → (key : List ℕ) (x : MapLookup) → LooksUp s t n key x
       → (from len : ℕ) → EntryOf s at n key from len
       → (noneMet (elementRules s from len) → (k : ℕ) × (x ≡ look.Found (record { 0 = from }) len k)) × ((p : ℕ) → FirstMet (elementRules s from len) ELEMENT p → x ≡ look.Refused Element p)
   -- each of the table's first n places gives a key, and an entry, that is one of the map's; each of the map's has its place; keys rise with their places
-  pub keys : (n : ℕ) (c : Cursor) → r ≡ map.Walked n c → (i : ℕ) → i < n → (x : KeyRead) → ReadsKey s t i x
+  pub keys : (n : ℕ) (c : Cursor) (long : ℕ) → r ≡ map.Walked n c long → (i : ℕ) → i < n → (x : KeyRead) → ReadsKey s t i x
       → (x .answer ≡ key.Key) × ((from : ℕ) × ((len : ℕ) × EntryOf s at n (x .word) from len))
-  pub entries : (n : ℕ) (c : Cursor) → r ≡ map.Walked n c → (i : ℕ) → i < n → (x : MapEntryRead) → ReadsMapEntry s t i x
+  pub entries : (n : ℕ) (c : Cursor) (long : ℕ) → r ≡ map.Walked n c long → (i : ℕ) → i < n → (x : MapEntryRead) → ReadsMapEntry s t i x
       → (from : ByteOffset) × ((len : ℕ) × ((x .answer ≡ entry.Entry from len) × EntryOf s at n (x .word) (from .0) len))
-  pub placed : (n : ℕ) (c : Cursor) → r ≡ map.Walked n c → (key : List ℕ) (from len : ℕ) → EntryOf s at n key from len
+  pub placed : (n : ℕ) (c : Cursor) (long : ℕ) → r ≡ map.Walked n c long → (key : List ℕ) (from len : ℕ) → EntryOf s at n key from len
       → (i : ℕ) × ((i < n) × ((x : MapEntryRead) → ReadsMapEntry s t i x → x ≡ record { answer = entry.Entry (record { 0 = from }) len; word = key }))
-  pub rising : (n : ℕ) (c : Cursor) → r ≡ map.Walked n c → (i j : ℕ) (x y : KeyRead) → ReadsKey s t i x → ReadsKey s t j y → i < j → j < n → wordOrder (x .word) (y .word) ≡ Below
+  pub rising : (n : ℕ) (c : Cursor) (long : ℕ) → r ≡ map.Walked n c long → (i j : ℕ) (x y : KeyRead) → ReadsKey s t i x → ReadsKey s t j y → i < j → j < n → wordOrder (x .word) (y .word) ≡ Below
   -- and whatever it answered: with k places or more it does not say ROOM, where k places are enough
   pub room : (k : ℕ) → NeedsPlaces s at k → k ≤ length t₀ → (p : ByteOffset) → r ≡ map.Refused Room p → ⊥
 
@@ -195,9 +195,9 @@ checks-demanded s l r = record { children = of-checks.children-exactly s l r; or
 
 -- the scan accepts it, and nothing else; the walk over so many key places accepts its map, to its end; and it shows those parts
 pub record MustTake (f : FormatFacts) (places : ℕ) (s : List ℕ) (p : Parts) (end : ℕ) : Type 0 where
-  pub scans : (r : Scan) → Scans s f true None r → (l : ForestLayout) × (r ≡ scan.Accepted l)
-  pub walks : (l : ForestLayout) → Scans s f true None (scan.Accepted l) → (t₀ t : List ℕ) (r : MapWalk) → length t₀ ≡ places
-      → Walks s (l .«advice_map_offset» .0) t₀ t r → r ≡ map.Walked (length (p .lengths)) (record { at = record { 0 = end } })
+  pub scans : (r : Scan) → Scans s f true None r → (l : ForestLayout) × ((long : ℕ) × (r ≡ scan.Accepted l long))
+  pub walks : (l : ForestLayout) (long : ℕ) → Scans s f true None (scan.Accepted l long) → (t₀ t : List ℕ) (r : MapWalk) → length t₀ ≡ places
+      → Walks s (l .«advice_map_offset» .0) t₀ t r → (more : ℕ) × (r ≡ map.Walked (length (p .lengths)) (record { at = record { 0 = end } }) more)
   pub shows : (r : Scan) → Scans s f true None r → partsShown f s ≡ p
 
 pub rendering-demanded : (f : FormatFacts) (places : ℕ) (p : Parts) (l : Lengths) (rest : List ℕ) → Valid f places p → Lengthened p l
@@ -206,14 +206,16 @@ rendering-demanded f places p l rest valid long =
     record {
       scans = λ r said.
           let t = rendering-accepted f (said .given .proper) places p l rest valid long .taken in
-          (t .layout, same-answer shownScan scanBack scan-again _ r (scan.Accepted (t .layout)) (said .answer) (sym (t .scanned)));
-      walks = λ k said t₀ t r enough walks.
+          (t .layout, (t .scanLong, same-answer shownScan scanBack scan-again _ r (scan.Accepted (t .layout) (t .scanLong)) (said .answer) (sym (t .scanned))));
+      walks = λ k n said t₀ t r enough walks.
           let x = rendering-accepted f (said .given .proper) places p l rest valid long .taken in
-          let same : x .layout ≡ k = one (sym (x .scanned) ∙ sym (said .answer)) in
-          same-answer shownWalk walkBack walk-again _ r (map.Walked (length (p .lengths)) (record { at = record { 0 = length (renderedFile f p l) } })) (rw enough at (walks .answer))
-          (sym (rw same at (x .walked)));
+          let same : x .layout ≡ k = ap (λ (y : Scanned). y .layout) (one (sym (x .scanned) ∙ sym (said .answer))) in (
+            x .walkLong,
+            same-answer shownWalk walkBack walk-again _ r (map.Walked (length (p .lengths)) (record { at = record { 0 = length (renderedFile f p l) } }) (x .walkLong)) (rw enough at (walks .answer))
+                (sym (rw same at (x .walked))),
+          );
       shows = λ r said. rendering-accepted f (said .given .proper) places p l rest valid long .parts;
     }
   where
-    one : {a b : ForestLayout} → _≡_ (accepted a) (accepted b) → a ≡ b
+    one : {a b : Scanned} → _≡_ (accepted a) (accepted b) → a ≡ b
     one e = cc

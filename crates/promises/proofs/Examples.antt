@@ -3,24 +3,26 @@
 -- antt computes both sides.
 -- Assumes nothing.
 use mathlib.Core.Path.{_≡_, refl}
-use mathlib.Core.Bool.{true}
+use mathlib.Core.Bool.{true, false}
 use mathlib.Core.List.{List, [], _∷_, _++_, map}
 use Prim.Native.Nat.{ℕ, _-_, _^_}
 use lib.Count.{trailingZeros, ones, onesIn}
 use Rattle.wire.specs.Table.{Outcome, refused, accepted, firstMet, _>>=_, At}
 use Rattle.wire.specs.Refusals.{SHORT, TAG, PAYLOAD}
 use Rattle.wire.specs.Le.{le, leBytes}
-use Rattle.wire.specs.Counts.{countLength, countValue, counted, countOutcome, leastFrom, shortestLen, countForm, countBytes}
+use Rattle.wire.specs.Counts.{longOnes, countLength, countValue, counted, countOutcome, leastFrom, shortestLen, countForm, countBytes}
 use Rattle.wire.specs.Rows.{numbersOf}
+use Rattle.wire.specs.Words.{isElement, notElements, fourAt}
 use Rattle.wire.specs.declared.count.Count.{Count}
 use Rattle.info.specs.Entry.{entryOf, badTag, badPayload, decodeRules, decodeOutcome, encodeOutcome}
 use Rattle.info.specs.declared.MastNodeEntry.{MastNodeEntry}
 use Rattle.info.specs.declared.MastNodeEntry.the-variants.{Join, Dyn}
 use Rattle.layout.specs.Facts.{badFormat, overBudget}
-use Rattle.layout.specs.Scan.{wordsRules, externals, scanRules, scanOutcome}
+use Rattle.layout.specs.Scan.{Scanned, wordsRules, externals, scanRules, scanOutcome}
 use Rattle.rows.specs.Rows.{rowRules, rowOutcome, nodePass}
 use Rattle.resolved.specs.Slots.{countOf, slotsOf, tableRules, slotsOutcome, tableAfter}
-use Rattle.advice.specs.Walk.{walkRules, walkEnd, mapRules, walkOutcome}
+use Rattle.keys.specs.Keys.{seenKey}
+use Rattle.advice.specs.Walk.{walkRules, walkEnd, walkShown, mapRules, walkOutcome}
 use Rattle.text.specs.Text.{bytes as quoted, decimalIn, decimal, piece, holesPast, filledFrom}
 use Rattle.whole.specs.Whole.{mapOutcome, wholeOutcome}
 use Rattle.page.specs.Page.{hashesText, pageText}
@@ -28,7 +30,6 @@ use Rattle.page.specs.Answer.{answerOutcome, answerText}
 use Rattle.layout.specs.declared.facts.FormatFacts.{FormatFacts}
 use Rattle.layout.specs.declared.facts.Bound.the-variants.{None}
 use Rattle.layout.specs.declared.forest.HashSection.the-variants.{Absent}
-use Rattle.layout.specs.declared.forest.ForestLayout.{ForestLayout}
 
 -- what is asked, and what is answered
 pub data Question : Type 0 where
@@ -39,14 +40,16 @@ pub data Question : Type 0 where
   scan : List ℕ → Question
   slots : List ℕ → Question
   page : List ℕ → Question
+  long : List ℕ → Question
 
 pub data Answer : Type 0 where
   counts : Outcome (At Count) → Answer
   bytes : List ℕ → Answer
   entry : Outcome MastNodeEntry → Answer
   word : Outcome ℕ → Answer
-  layout : Outcome ForestLayout → Answer
+  layout : Outcome Scanned → Answer
   table : List ℕ → Answer
+  longs : Outcome (ℕ × ℕ) → Answer
 
 pub record Example : Type 0 where
   pub question : Question
@@ -56,9 +59,12 @@ infix 5 _⇒_
 abbrev pub _⇒_ : Question → Answer → Example
 q ⇒ a = record { question = q; answer = a }
 
--- v, in n bytes
+-- v, in n bytes: its shortest form, or a long one
 abbrev pub says : ℕ → ℕ → Answer
-says v n = counts (accepted (record { value = record { value = v; len = n }; next = n }))
+says v n = counts (accepted (record { value = record { value = v; len = n; shortest = true }; next = n }))
+
+abbrev pub saysLong : ℕ → ℕ → Answer
+saysLong v n = counts (accepted (record { value = record { value = v; len = n; shortest = false }; next = n }))
 
 -- the stand-in facts of the small program: magic MAST, version 0 0 2, hashless mask 2, reserved mask 0xFC, at most 2 ^ 30 - 1 nodes
 abbrev pub stand-in : FormatFacts
@@ -94,9 +100,17 @@ page10 =
     ++ quoted "advice at 73 end 74\n")))))
 
 -- the slots of an accepted file's three nodes
-abbrev pub slotTable : List ℕ → Outcome ForestLayout → List ℕ
+abbrev pub slotTable : List ℕ → Outcome Scanned → List ℕ
 slotTable s (refused n p) = []
-slotTable s (accepted l) = tableAfter s l None (9 ∷ 9 ∷ 9 ∷ [])
+slotTable s (accepted x) = tableAfter s (x .layout) None (9 ∷ 9 ∷ 9 ∷ [])
+
+-- the numbers of long counts: the scan's, and the walk's over two key places
+abbrev pub longNumbers : List ℕ → Outcome (ℕ × ℕ)
+longNumbers s = scanOutcome stand-in s true None >>= (λ x. walkOutcome 2 s (x .layout .«advice_map_offset» .0) >>= (λ w. accepted (x .long, w .long)))
+
+-- a header, and counts
+abbrev pub headed : List ℕ → List ℕ
+headed rest = 0x4D ∷ 0x41 ∷ 0x53 ∷ 0x54 ∷ 0x00 ∷ 0x00 ∷ 0x00 ∷ 0x02 ∷ rest
 
 -- what the definitions answer
 abbrev pub ask : Question → Answer
@@ -107,13 +121,14 @@ ask (encode e) = word (encodeOutcome e)
 ask (scan s) = layout (scanOutcome stand-in s true None)
 ask (slots s) = table (slotTable s (scanOutcome stand-in s true None))
 ask (page s) = bytes (answerText stand-in 8 s)
+ask (long s) = longs (longNumbers s)
 
 abbrev pub examples : List Example
 examples =
     -- P1
     (shortest 0 ⇒ bytes (0x01 ∷ []))
     ∷ (count (0x01 ∷ []) ⇒ says 0 1)
-    ∷ (count (0x02 ∷ 0x00 ∷ []) ⇒ says 0 2)
+    ∷ (count (0x02 ∷ 0x00 ∷ []) ⇒ saysLong 0 2)
     -- P2
     ∷ (shortest 127 ⇒ bytes (0xFF ∷ []))
     ∷ (count (0xFF ∷ []) ⇒ says 127 1)
@@ -147,20 +162,35 @@ examples =
     ⇒ layout
     (accepted
     (record {
-      «node_count» = 3;
-      «internal_node_count» = record { 0 = 2 };
-      «external_node_count» = record { 0 = 1 };
-      «roots_count» = 1;
-      «roots_offset» = record { 0 = 11 };
-      «basic_block_offset» = record { 0 = 16 };
-      «basic_block_len» = 1;
-      «node_entry_offset» = record { 0 = 17 };
-      «external_digest_offset» = record { 0 = 41 };
-      «node_hash_offset» = Absent;
-      «advice_map_offset» = record { 0 = 73 };
+      long = 0;
+      layout = record {
+        «node_count» = 3;
+        «internal_node_count» = record { 0 = 2 };
+        «external_node_count» = record { 0 = 1 };
+        «roots_count» = 1;
+        «roots_offset» = record { 0 = 11 };
+        «basic_block_offset» = record { 0 = 16 };
+        «basic_block_len» = 1;
+        «node_entry_offset» = record { 0 = 17 };
+        «external_digest_offset» = record { 0 = 41 };
+        «node_hash_offset» = Absent;
+        «advice_map_offset» = record { 0 = 73 };
+      };
     })))
     ∷ (slots hashlessFile ⇒ table (0 ∷ 0 ∷ 1 ∷ []))
     ∷ (page hashlessFile ⇒ bytes page10)
+    -- request 2: at the limit of one, two and eight bytes; each of the four counts of the scan; the map's; a length; and a refused file has no number
+    ∷ (count (0xFE ∷ 0x01 ∷ []) ⇒ saysLong 127 2)
+    ∷ (count (0xFC ∷ 0xFF ∷ 0x01 ∷ []) ⇒ saysLong 16383 3)
+    ∷ (count (0x00 ∷ 0xFF ∷ 0xFF ∷ 0xFF ∷ 0xFF ∷ 0xFF ∷ 0xFF ∷ 0xFF ∷ 0x00 ∷ []) ⇒ saysLong (2 ^ 56 - 1) 9)
+    ∷ (long (headed (0x01 ∷ 0x01 ∷ 0x01 ∷ 0x01 ∷ 0x01 ∷ [])) ⇒ longs (accepted (0, 0)))
+    ∷ (long (headed (0x02 ∷ 0x00 ∷ 0x01 ∷ 0x01 ∷ 0x01 ∷ 0x01 ∷ [])) ⇒ longs (accepted (1, 0)))
+    ∷ (long (headed (0x01 ∷ 0x02 ∷ 0x00 ∷ 0x01 ∷ 0x01 ∷ 0x01 ∷ [])) ⇒ longs (accepted (1, 0)))
+    ∷ (long (headed (0x01 ∷ 0x01 ∷ 0x02 ∷ 0x00 ∷ 0x01 ∷ 0x01 ∷ [])) ⇒ longs (accepted (1, 0)))
+    ∷ (long (headed (0x01 ∷ 0x01 ∷ 0x01 ∷ 0x02 ∷ 0x00 ∷ 0x01 ∷ [])) ⇒ longs (accepted (1, 0)))
+    ∷ (long (headed (0x01 ∷ 0x01 ∷ 0x01 ∷ 0x01 ∷ 0x02 ∷ 0x00 ∷ [])) ⇒ longs (accepted (0, 1)))
+    ∷ (long (headed ((0x02 ∷ 0x00 ∷ 0x02 ∷ 0x00 ∷ 0x02 ∷ 0x00 ∷ 0x02 ∷ 0x00 ∷ 0x06 ∷ 0x00 ∷ []) ++ (leBytes 32 5 ++ (0x02 ∷ 0x00 ∷ [])))) ⇒ longs (accepted (4, 2)))
+    ∷ (long (headed (0x02 ∷ 0x00 ∷ 0x01 ∷ 0x01 ∷ 0x01 ∷ [])) ⇒ longs (refused SHORT 13))
     -- request 4: bytes behind a count; a first byte of 0, with seven bytes after it and with eight
     ∷ (count (0x01 ∷ 0xFF ∷ 0xFF ∷ 0xFF ∷ 0xFF ∷ 0xFF ∷ 0xFF ∷ 0xFF ∷ []) ⇒ says 0 1)
     ∷ (count (0x40 ∷ 0x00 ∷ 0x00 ∷ 0x00 ∷ 0x00 ∷ 0x00 ∷ 0x80 ∷ 0xFF ∷ []) ⇒ says (2 ^ 48) 7)
@@ -169,5 +199,5 @@ examples =
     ∷ []
 
 pub answered : map (λ (x : Example). ask (x .question)) examples ≡ map (λ (x : Example). x .answer) examples
-unfolding firstMet countOutcome counted countLength trailingZeros countValue le leBytes countForm shortestLen leastFrom decodeOutcome decodeRules entryOf badTag badPayload encodeOutcome scanOutcome scanRules badFormat ones onesIn overBudget wordsRules externals numbersOf tableAfter slotsOutcome tableRules slotsOf countOf nodePass rowOutcome rowRules _>>=_ walkRules walkEnd mapRules walkOutcome quoted decimalIn decimal piece holesPast filledFrom hashesText pageText mapOutcome wholeOutcome answerOutcome answerText
+unfolding firstMet countOutcome longOnes counted countLength trailingZeros countValue le leBytes countForm shortestLen leastFrom decodeOutcome decodeRules entryOf badTag badPayload encodeOutcome scanOutcome scanRules badFormat ones onesIn overBudget wordsRules externals numbersOf tableAfter slotsOutcome tableRules slotsOf countOf nodePass rowOutcome rowRules _>>=_ walkRules walkEnd walkShown isElement notElements fourAt seenKey mapRules walkOutcome quoted decimalIn decimal piece holesPast filledFrom hashesText pageText mapOutcome wholeOutcome answerOutcome answerText
 answered = refl

@@ -23,4 +23,5 @@ pub mod Advice
 pub mod Demand2
 pub mod Demand3
 pub mod Examples
+pub mod Request2
 pub mod Request4

@@ -36,6 +36,7 @@ use Rattle.promises.proofs.OfWhole.{Whole, whole}
 use Rattle.promises.proofs.OfPage.{Page, page}
 use Rattle.promises.proofs.Demand2.{Demand2File, file-demanded, Demand2Map, map-demanded, Demand2Entries, entries-demanded, Demand2Checks, checks-demanded, MustTake, rendering-demanded}
 use Rattle.promises.proofs.Demand3.{Accepts, Demand3, shortest-demanded}
+use Rattle.promises.proofs.Request2.{Request2, long-counts}
 use Rattle.promises.proofs.Request4.{Request4, counts-together}
 
 -- 1. Each public function answers whatever it is given: that it does is its own proof, and here it is seen that it asks nothing of its caller, that
@@ -64,10 +65,15 @@ pub demand-2-exists : (f : FormatFacts) (places : ℕ) (p : Parts) (l : Lengths)
 demand-2-exists = rendering-demanded
 
 -- 3. Of a file s that scan and walk accept, its map ending at e: given its parts and as much room, the writer makes a file that is accepted, shows the
--- same parts and is the shortest such; another is equally short exactly if each of its counts has its shortest form.
+-- same parts and is the shortest such; another is equally short exactly if each of its counts has its shortest form, which scan and walk tell.
 pub demand-3 : (f : FormatFacts) (s : List ℕ) (places entries e : ℕ) → Accepts f places s entries e
     → (o₀ o : List ℕ) (r : ForestWrite) → e ≤ length o₀ → Writes f (partsShown f s) o₀ o r → Demand3 f s entries o r
 demand-3 = shortest-demanded
+
+-- Request 2. The count reader says whether a count has its shortest form, and scan and walk how many have not; both say none exactly if each count of
+-- the file has its shortest form, which is exactly when the file is the shortest of its parts.
+pub request-2 : Request2
+request-2 = long-counts
 
 -- Request 4. What the count reader promises is what one says that takes eight bytes, where they are left, as one word and shifts it, and nothing else.
 pub request-4 : (s : List ℕ) (at : ℕ) (r : CountRead) → Bytes s → ReadsCount s at r ↔ Request4 s at r

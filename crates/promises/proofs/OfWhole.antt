@@ -11,23 +11,22 @@ use Rattle.wire.specs.Table.{Outcome, refused, accepted, _>>=_}
 use Rattle.wire.specs.declared.refusal.Refusal.{Refusal}
 use Rattle.wire.specs.declared.units.ByteOffset.{ByteOffset}
 use Rattle.wire.proofs.Tables.{same-answer}
-use Rattle.layout.specs.Scan.{scanOutcome}
-use Rattle.layout.specs.declared.forest.ForestLayout.{ForestLayout}
+use Rattle.layout.specs.Scan.{Scanned, scanOutcome}
 use Rattle.advice.specs.Walk.{Walked, walkOutcome, firstEntry, tableOf, keyTable}
-use Rattle.whole.specs.Whole.{Sheet, mapOutcome, wholeOutcome, unlessRefused, wholeKeys}
+use Rattle.whole.specs.Whole.{Sheet, sheetOf, mapOutcome, wholeOutcome, unlessRefused, wholeKeys}
 use Rattle.whole.specs.Shown.{shownWhole}
 use Rattle.whole.specs.declared.WholeRead.the-variants as read
 use Rattle.whole.proofs.Answers.{wholeBack, whole-again}
 use Rattle.whole.proofs.read_whole.Reads as read-whole
 use Rattle.promises.proofs.Terms.{Answers, answers, Leaves}
 
-left : (s keys : List ℕ) (o : Outcome ForestLayout) (n q : ℕ) → (o >>= mapOutcome (length keys) s) ≡ refused n q
-    → (unlessRefused keys (λ l. keyTable s (l .«advice_map_offset» .0) keys) o ≡ keys) ⊎ (unlessRefused keys (λ l. keyTable s (l .«advice_map_offset» .0) keys) o ≡ replicate (length keys) 0)
+left : (s keys : List ℕ) (o : Outcome Scanned) (n q : ℕ) → (o >>= mapOutcome (length keys) s) ≡ refused n q
+    → (unlessRefused keys (λ x. keyTable s (x .layout .«advice_map_offset» .0) keys) o ≡ keys) ⊎ (unlessRefused keys (λ x. keyTable s (x .layout .«advice_map_offset» .0) keys) o ≡ replicate (length keys) 0)
 unfolding _>>=_ mapOutcome keyTable
 left s keys (refused m p) n q h = inl refl
-left s keys (accepted l) n q h = inr (go (walkOutcome (length keys) s (l .«advice_map_offset» .0)) h)
+left s keys (accepted x) n q h = inr (go (walkOutcome (length keys) s (x .layout .«advice_map_offset» .0)) h)
   where
-    go : (o : Outcome Walked) → _≡_ {A = Outcome Sheet} (o >>= (λ w. accepted (record { layout = l; entries = w .entries; end = w .end }))) (refused n q) → tableOf s (firstEntry s (l .«advice_map_offset» .0)) keys o ≡ replicate (length keys) 0
+    go : (o : Outcome Walked) → _≡_ {A = Outcome Sheet} (o >>= (λ w. accepted (sheetOf x w))) (refused n q) → tableOf s (firstEntry s (x .layout .«advice_map_offset» .0)) keys o ≡ replicate (length keys) 0
     go (refused m p) e = refl
     go (accepted w) e = cc
 

@@ -22,6 +22,7 @@ use Rattle.wire.proofs.number.read_u32.Reads as read-u32
 use Rattle.wire.proofs.number.read_u64.Reads as read-u64
 use Rattle.wire.proofs.number.put_le.Reads as put-le
 use Rattle.wire.proofs.count.read_count.Reads as read-count
+use Rattle.wire.proofs.count.long_one.Reads as long-one
 use Rattle.wire.proofs.count.shortest_len.Reads as shortest-len
 use Rattle.wire.proofs.count.write_count.Reads as write-count
 use Rattle.wire.proofs.word.is_element.Reads as is-element
@@ -51,6 +52,7 @@ pub record Wire : Type 0 where
   pub put-le-asks : AsksNothing put-le.Pre
   pub put-le-leaves : Leaves put-le.Post (λ κs e. now (e .1 .0))
   pub read-count-answers : Answers read-count.Pre read-count.Post
+  pub long-one-answers : Answers long-one.Pre long-one.Post
   pub shortest-len-answers : Answers shortest-len.Pre shortest-len.Post
   pub write-count-answers : Answers write-count.Pre write-count.Post
   pub write-count-leaves : Leaves write-count.Post (λ κs e. now (e .0))
@@ -76,6 +78,7 @@ wire =
       put-le-asks = λ κs a. tt;
       put-le-leaves = λ κs a r r′ e e′ p p′. p ∙ sym p′;
       read-count-answers = answers (λ κs a. tt) (λ κs a r r′ e e′ p p′. same-answer shownCount countBack count-again _ r r′ p p′);
+      long-one-answers = answers (λ κs a. tt) (λ κs a r r′ e e′ p p′. p .0 ∙ sym (p′ .0));
       shortest-len-answers = answers (λ κs a. tt) (λ κs a r r′ e e′ p p′. p ∙ sym p′);
       write-count-answers = answers (λ κs a. tt) (λ κs a r r′ e e′ p p′. same-answer shownWritten writtenBack written-again _ r r′ (p .0) (p′ .0));
       write-count-leaves = λ κs a r r′ e e′ p p′. p .1 ∙ sym (p′ .1);

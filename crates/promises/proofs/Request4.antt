@@ -1,4 +1,4 @@
--- Request 4 of document 02: counts read eight bytes at once. How bytes are read no promise says, and that of `read_count` is what it was. Here it is
+-- Request 4 of document 02: counts read eight bytes at once. How bytes are read no promise says. Here that of `read_count` is
 -- seen to be, in every case, what a reader says that takes eight bytes together and shifts them, and nothing else: `read_count` is such a reader. The
 -- bytes of a slice are below 256, as its type says.
 -- Assumes nothing.
@@ -12,7 +12,7 @@ use lib.ListN.{length, getD}
 use Rattle.wire.specs.Table.{accepted, refused}
 use Rattle.wire.specs.Refusals.{SHORT}
 use Rattle.wire.specs.Le.{Bytes, leAt}
-use Rattle.wire.specs.Counts.{countLength, Reads}
+use Rattle.wire.specs.Counts.{countOf, countLength, Reads}
 use Rattle.wire.specs.Shown.{shownCount}
 use Rattle.wire.specs.declared.count.CountRead.{CountRead}
 use Rattle.wire.proofs.Counts.{lt-or-ge, length-of-zero, count-short, whole-upto-8, whole-9}
@@ -26,9 +26,9 @@ zerosAt s at = trailingZeros 8 (getD s at 0)
 abbrev pub lengthAt : List ℕ → ℕ → ℕ
 lengthAt s at = zerosAt s at + 1
 
--- the answer is v, in len bytes at `at`
+-- the answer is v, in len bytes at `at`, and whether that is the shortest
 abbrev pub Says : CountRead → ℕ → ℕ → ℕ → Type 0
-Says r at len v = shownCount r ≡ accepted (record { value = record { value = v; len = len }; next = at + len })
+Says r at len v = shownCount r ≡ accepted (record { value = countOf len v; next = at + len })
 
 pub record Request4 (s : List ℕ) (at : ℕ) (r : CountRead) : Type 0 where
   -- eight bytes or more are left, and the first is not 0: eight as one word of 64 bits, shifted up and down

@@ -50,30 +50,30 @@ pub data ReadsDigest (s : List ℕ) (l : ForestLayout) (i : ℕ) (x : DigestRead
 
 -- ---- of a file that the scan accepts
 
-module _ (s : List ℕ) (f : FormatFacts) (allow : Bool) (bound : Bound) (r : Scan) (promised : Scans s f allow bound r) (l : ForestLayout) (taken : r ≡ Accepted l) where
+module _ (s : List ℕ) (f : FormatFacts) (allow : Bool) (bound : Bound) (r : Scan) (promised : Scans s f allow bound r) (l : ForestLayout) (long : ℕ) (taken : r ≡ Accepted l long) where
   -- the builder fills, and says what is left of its bound
   pub slots-fill : (limit : Bound) (t₀ t : List ℕ) (x : SlotsBuilt) → Builds s l limit t₀ t x → lacks limit (4 * l .«node_count») ≡ false → l .«node_count» ≤ length t₀
       → x ≡ Filled (spent limit (4 * l .«node_count»))
   slots-fill limit t₀ t x built enough room =
       same-answer shownSlots slotsBack slots-again _ x (Filled _) (built .answer)
-      (sym (fills.slots-fill f s l (sections-end-to-end s f allow bound r promised l taken) (nodes-counted s f allow bound r promised l taken) limit (length t₀) enough room))
+      (sym (fills.slots-fill f s l (sections-end-to-end s f allow bound r promised l long taken) (nodes-counted s f allow bound r promised l long taken) limit (length t₀) enough room))
 
   pub slot-below-count : (i : ℕ) → i < l .«node_count» → slotOf (externalNode s l) i < rowsOf l (externalNode s l i)
-  slot-below-count = sections.slot-in-section f s l (sections-end-to-end s f allow bound r promised l taken) (nodes-counted s f allow bound r promised l taken)
+  slot-below-count = sections.slot-in-section f s l (sections-end-to-end s f allow bound r promised l long taken) (nodes-counted s f allow bound r promised l long taken)
 
   -- a node's digest row lies inside its section, and that inside the file
   pub digest-row-inside : (i : ℕ) → i < l .«node_count» → (section : ByteOffset) → sectionOf l (externalNode s l i) ≡ At section →
       (rowAt (section .0) 32 (slotOf (externalNode s l) i) + 32 ≤ section .0 + 32 * rowsOf l (externalNode s l i))
       × (section .0 + 32 * rowsOf l (externalNode s l i) ≤ length s)
-  digest-row-inside = sections.row-in-section f s l (sections-end-to-end s f allow bound r promised l taken) (nodes-counted s f allow bound r promised l taken)
+  digest-row-inside = sections.row-in-section f s l (sections-end-to-end s f allow bound r promised l long taken) (nodes-counted s f allow bound r promised l long taken)
 
   -- a digest by either way is the row's word, or NO-HASH, or ELEMENT
   pub digest-of-each : (i : ℕ) (x : DigestRead) → i < l .«node_count» → ReadsDigest s l i x → DigestSaid s i (slotOf (externalNode s l) i) (sectionOf l (externalNode s l i)) (shownDigest x)
   digest-of-each i x h (by-counting read) =
-      rw (read .0) (fills.digest-said f s l (sections-end-to-end s f allow bound r promised l taken) (nodes-counted s f allow bound r promised l taken) (promised .given .below) i h)
+      rw (read .0) (fills.digest-said f s l (sections-end-to-end s f allow bound r promised l long taken) (nodes-counted s f allow bound r promised l long taken) (promised .given .below) i h)
   digest-of-each i x h (with-table limit left t₀ t built read) =
       rw (read .0, same-digests s l limit left t₀ t built i)
-      (fills.digest-said f s l (sections-end-to-end s f allow bound r promised l taken) (nodes-counted s f allow bound r promised l taken) (promised .given .below) i h)
+      (fills.digest-said f s l (sections-end-to-end s f allow bound r promised l long taken) (nodes-counted s f allow bound r promised l long taken) (promised .given .below) i h)
 
 -- slots of one kind are distinct, and rows of one kind are in node order: of any record
 pub slots-differ : (s : List ℕ) (l : ForestLayout) (i j : ℕ) → externalNode s l i ≡ externalNode s l j → slotOf (externalNode s l) i ≡ slotOf (externalNode s l) j → i ≡ j

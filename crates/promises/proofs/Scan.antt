@@ -10,12 +10,13 @@ use Prim.Native.Nat.{ℕ, _≤_, _<_}
 use lib.ListN.{getD}
 use Rattle.wire.specs.Table.{refused, accepted, noneMet, FirstMet}
 use Rattle.wire.specs.Refusals.{ROOT-ID, numberOf}
+use Rattle.wire.specs.Counts.{longOnes}
 use Rattle.wire.specs.declared.refusal.Refusal.{Refusal}
 use Rattle.wire.specs.declared.refusal.Refusal.the-variants.{RootId}
 use Rattle.wire.specs.declared.units.ByteOffset.{ByteOffset}
 use Rattle.wire.proofs.Tables.{accepts-exactly, refuses-exactly, same-answer}
 use Rattle.info.specs.Entry.{entryOf}
-use Rattle.layout.specs.Scan.{scanRules, layoutShown, scanOutcome}
+use Rattle.layout.specs.Scan.{Scanned, headCounts, mapAt, scanRules, layoutShown, scanShown, scanOutcome}
 use Rattle.layout.specs.Accepted.{EndToEnd, Counted}
 use Rattle.layout.specs.Index.{rootOutcome, nodeOutcome}
 use Rattle.rows.specs.Shown.{shownRow}
@@ -37,31 +38,39 @@ use Rattle.renderings.proofs.Indexed.{entry-shown, root-shown}
 use Rattle.promises.proofs.Calls.{Scans, ReadsNode, ReadsRoot}
 
 module _ (s : List ℕ) (f : FormatFacts) (allow : Bool) (bound : Bound) (r : Scan) (promised : Scans s f allow bound r) where
-  -- accepted, with the layout that the table's places give, exactly if no rule is met
-  pub accepts : (l : ForestLayout) → (r ≡ Accepted l) ↔ (noneMet (scanRules f s allow bound) × (layoutShown f s allow bound ≡ l))
+  -- accepted, with the layout that the table's places give and the number of long counts, exactly if no rule is met
+  pub accepts : (l : ForestLayout) (long : ℕ) → (r ≡ Accepted l long) ↔ (noneMet (scanRules f s allow bound) × (scanShown f s allow bound ≡ record { layout = l; long = long }))
   unfolding scanOutcome
-  accepts l =
-      let law = accepts-exactly (scanRules f s allow bound) (layoutShown f s allow bound) l in (
+  accepts l long =
+      let law = accepts-exactly (scanRules f s allow bound) (scanShown f s allow bound) (record { layout = l; long = long }) in (
         λ e. law .0 (sym (promised .answer) ∙ ap shownScan e),
-        λ h. same-answer shownScan scanBack scan-again _ r (Accepted l) (promised .answer) (sym (law .1 h)),
+        λ h. same-answer shownScan scanBack scan-again _ r (Accepted l long) (promised .answer) (sym (law .1 h)),
       )
 
   -- refused by the first rule that is met, all earlier ones unmet
   pub refuses : (why : Refusal) (at : ByteOffset) → (r ≡ Refused why at) ↔ FirstMet (scanRules f s allow bound) (numberOf why) (at .0)
   unfolding scanOutcome
   refuses why at =
-      let law = refuses-exactly (scanRules f s allow bound) (layoutShown f s allow bound) (numberOf why) (at .0) in (
+      let law = refuses-exactly (scanRules f s allow bound) (scanShown f s allow bound) (numberOf why) (at .0) in (
         λ e. law .0 (sym (promised .answer) ∙ ap shownScan e),
         λ h. same-answer shownScan scanBack scan-again _ r (Refused why at) (promised .answer) (sym (law .1 h)),
       )
 
   -- of an accepted file
-  module _ (l : ForestLayout) (taken : r ≡ Accepted l) where
+  module _ (l : ForestLayout) (long : ℕ) (taken : r ≡ Accepted l long) where
     unmet : noneMet (scanRules f s allow bound)
-    unmet = accepts l .0 taken .0
+    unmet = accepts l long .0 taken .0
 
     same : layoutShown f s allow bound ≡ l
-    same = accepts l .0 taken .1
+    same = ap (λ (x : Scanned). x .layout) (accepts l long .0 taken .1)
+
+    -- its map lies where the layout says
+    pub map-placed : mapAt f s ≡ l .«advice_map_offset» .0
+    map-placed = ap (λ (k : ForestLayout). k .«advice_map_offset» .0) same
+
+    -- the number of long ones among the file's first four counts
+    pub long-counted : long ≡ longOnes (headCounts f s)
+    long-counted = sym (ap (λ (x : Scanned). x .long) (accepts l long .0 taken .1))
 
     pub sections-end-to-end : EndToEnd f s l
     sections-end-to-end = rw same at (end-to-end f s allow bound unmet)

@@ -86,7 +86,7 @@ told numbers before o after = numberIn o ∷ placed 900 o ∷ (numbers (answered
 
 -- an answer that is an array, which held the numbers from 901 on
 abbrev pub blank : List ℕ
-blank = 901 ∷ 902 ∷ 903 ∷ 904 ∷ 905 ∷ 906 ∷ 907 ∷ 908 ∷ 909 ∷ 910 ∷ 911 ∷ 912 ∷ []
+blank = 901 ∷ 902 ∷ 903 ∷ 904 ∷ 905 ∷ 906 ∷ 907 ∷ 908 ∷ 909 ∷ 910 ∷ 911 ∷ 912 ∷ 913 ∷ []
 
 abbrev pub itself : List ℕ → List ℕ
 itself l = l
@@ -111,11 +111,11 @@ checkTold o after = numberIn o ∷ placed 900 o ∷ after
 abbrev pub calls : List (List ℕ → List ℕ → List ℕ → List ℕ)
 calls =
     (λ s a l. [])
-    ∷ (λ s a l. arrayTold 3 (countCall s (given a 0)) l)
+    ∷ (λ s a l. arrayTold 4 (countCall s (given a 0)) l)
     ∷ (λ s a l. alone (shortestLen (given a 0)))
     ∷ (λ s a l. arrayTold 3 (decodeCall (given a 0)) l)
     ∷ (λ s a l. numberTold 901 (encodeCall (entryGiven a)) l)
-    ∷ (λ s a l. arrayTold 12 (scanCall s (marksGiven a) (given a 9) (not (eqb (given a 10) 0)) (boundGiven a 11 12)) l)
+    ∷ (λ s a l. arrayTold 13 (scanCall s (marksGiven a) (given a 9) (not (eqb (given a 10) 0)) (boundGiven a 11 12)) l)
     ∷ (λ s a l. numberTold 901 (rootCall s (layoutGiven a) (given a 12)) l)
     ∷ (λ s a l. arrayTold 3 (entryCall s (layoutGiven a) (given a 12)) l)
     ∷ (λ s a l. checkTold (childrenCall s (layoutGiven a)) l)
@@ -125,7 +125,7 @@ calls =
     ∷ (λ s a l. arrayTold 4 (digestTableCall s (layoutGiven a) (given a 12) l) l)
     ∷ (λ s a l. arrayTold 2 (slotsCall s (layoutGiven a) (boundGiven a 12 13) (length l)) (slotsAfter s (layoutGiven a) (boundGiven a 12 13) l))
     ∷ (λ s a l. numberTold 901 (writeOutcome l (given a 0) (given a 1)) (withCount l (given a 0) (given a 1)))
-    ∷ (λ s a l. arrayTold 3 (walkCall (length l) s (given a 0)) (keyTable s (given a 0) l))
+    ∷ (λ s a l. arrayTold 4 (walkCall (length l) s (given a 0)) (keyTable s (given a 0) l))
     ∷ (λ s a l. arrayTold 4 (lookupCall s l (given a 4) (keyGiven a)) l)
     ∷ (λ s a l. arrayTold 3 (valuesCall s l (given a 4) (keyGiven a)) l)
     ∷ (λ s a l. numberTold 901 (writeCall (marksGiven a) (given a 9) (partsGiven s a) (length l)) (writeAfter (marksGiven a) (given a 9) (partsGiven s a) l))

@@ -84,7 +84,7 @@ pub(crate) fn six<'a>(l: &'a [u64; 6]) -> &'a [u64]
     l
 }
 
-pub(crate) fn twelve<'a>(l: &'a [u64; 12]) -> &'a [u64]
+pub(crate) fn thirteen<'a>(l: &'a [u64; 13]) -> &'a [u64]
     ensures { λ r. ⌜ now r ≡ now (l .entry) ⌝ }
 {
     l

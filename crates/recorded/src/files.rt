@@ -1,8 +1,8 @@
 // Calls over a file: its flags, its layout, roots and entries by index, the checks of all nodes.
 use crate::arrays::layout_given;
 use crate::arrays::marks_given;
+use crate::arrays::thirteen;
 use crate::arrays::three;
-use crate::arrays::twelve;
 use crate::lists::number;
 use crate::told::is_told;
 use crate::told::is_told_check;
@@ -45,6 +45,7 @@ fn scan_agrees(s: &[u8], a: &[u64], lent: &[u64], row: &[u64]) -> bool
         910,
         911,
         912,
+        913,
     ];
     let mut place: u64 = 900;
     let r = veka_raw_scan(
@@ -56,7 +57,7 @@ fn scan_agrees(s: &[u8], a: &[u64], lent: &[u64], row: &[u64]) -> bool
         &mut answer,
         &mut place,
     );
-    is_told(r, place, twelve(&answer), lent, row)
+    is_told(r, place, thirteen(&answer), lent, row)
 }
 
 fn root_agrees(s: &[u8], a: &[u64], lent: &[u64], row: &[u64]) -> bool

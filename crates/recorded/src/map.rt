@@ -25,10 +25,10 @@ fn places_agrees(s: &[u8], a: &[u64], keys: &[u64], row: &[u64]) -> bool
 fn walk_agrees(s: &[u8], a: &[u64], keys: &mut [u64], row: &[u64]) -> bool
     ensures { λ r. ⌜ (r ≡ true → now (row .entry) ≡ callRow 15 (now (s .entry)) (now (a .entry)) (now (keys .entry))) ⌝ }
 {
-    let mut answer = [901u64, 902, 903];
+    let mut answer = [901u64, 902, 903, 904];
     let mut place: u64 = 900;
     let r = veka_raw_walk(s, number(a, 0) as usize, keys, &mut answer, &mut place);
-    is_told(r, place, three(&answer), keys, row)
+    is_told(r, place, four(&answer), keys, row)
 }
 
 fn key_agrees(s: &[u8], a: &[u64], keys: &[u64], row: &[u64]) -> bool

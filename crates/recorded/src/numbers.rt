@@ -1,5 +1,6 @@
 // Calls over numbers: counts, entries, the version.
 use crate::arrays::entry_given;
+use crate::arrays::four;
 use crate::arrays::three;
 use crate::lists::number;
 use crate::told::is_number;
@@ -16,10 +17,10 @@ ghost use Rattle.recorded.specs.Calls.{callRow};
 fn count_agrees(s: &[u8], a: &[u64], lent: &[u64], row: &[u64]) -> bool
     ensures { λ r. ⌜ (r ≡ true → now (row .entry) ≡ callRow 1 (now (s .entry)) (now (a .entry)) (now (lent .entry))) ⌝ }
 {
-    let mut answer = [901u64, 902, 903];
+    let mut answer = [901u64, 902, 903, 904];
     let mut place: u64 = 900;
     let r = veka_raw_read_count(s, number(a, 0) as usize, &mut answer, &mut place);
-    is_told(r, place, three(&answer), lent, row)
+    is_told(r, place, four(&answer), lent, row)
 }
 
 fn length_agrees(s: &[u8], a: &[u64], lent: &[u64], row: &[u64]) -> bool

@@ -12,11 +12,10 @@ use Rattle.wire.specs.Le.{Bytes}
 use Rattle.wire.proofs.Tables.{none-accepted}
 use Rattle.wire.proofs.Piece.{Shorter, trims}
 use Rattle.layout.specs.declared.facts.FormatFacts.{FormatFacts}
-use Rattle.advice.specs.Walk.{Walked}
 use Rattle.writer.specs.Parts.{Parts, asRead, SameParts, partsShown, fileEnd, fileCounts, EachShortest}
 use Rattle.writer.specs.Writer.{writtenFile, writerRules, writeOutcome}
 use Rattle.layout.specs.Given.{Proper}
-use Rattle.renderings.specs.Rendering.{Taken, fileRules, Valid}
+use Rattle.renderings.specs.Rendering.{Ends, Taken, fileRules, Valid}
 use Rattle.renderings.proofs.Answers.{taken-none}
 use Rattle.renderings.proofs.File.{File, file}
 use Rattle.renderings.proofs.Shown.{partsOf}
@@ -59,7 +58,7 @@ module _ (f : FormatFacts) (k : Proper f) (places : ℕ) (t : List ℕ) (bt : By
 -- ---- the demand
 
 -- s is accepted, over so many key places, with so many entries and an end, w: what is promised of the writer's file for its parts
-pub record Demand (f : FormatFacts) (places : ℕ) (s : List ℕ) (w : Walked) : Type 0 where
+pub record Demand (f : FormatFacts) (places : ℕ) (s : List ℕ) (w : Ends) : Type 0 where
   -- given as many bytes of room as s fills to the end of its map, the writer succeeds
   pub succeeds : (room : ℕ) → w .end ≤ room → length s < 2 ^ 64
       → writeOutcome f (partsShown f s) room ≡ accepted (length (writtenFile f (partsShown f s)))
@@ -69,18 +68,18 @@ pub record Demand (f : FormatFacts) (places : ℕ) (s : List ℕ) (w : Walked) :
       → Taken f q (writtenFile f (partsShown f s) ++ rest) (record { entries = w .entries; end = length (writtenFile f (partsShown f s)) })
   pub shows : (rest : List ℕ) → SameParts (partsShown f (writtenFile f (partsShown f s) ++ rest)) (partsShown f s)
   -- no file accepted with those parts is shorter to that end
-  pub least : (q : ℕ) (t : List ℕ) (x : Walked) → Bytes t → Taken f q t x → SameParts (partsShown f t) (partsShown f s)
+  pub least : (q : ℕ) (t : List ℕ) (x : Ends) → Bytes t → Taken f q t x → SameParts (partsShown f t) (partsShown f s)
       → length (writtenFile f (partsShown f s)) ≤ x .end
   -- another is equally short exactly if each of its counts has its shortest form
-  pub equal : (q : ℕ) (t : List ℕ) (x : Walked) → Bytes t → Taken f q t x → SameParts (partsShown f t) (partsShown f s)
+  pub equal : (q : ℕ) (t : List ℕ) (x : Ends) → Bytes t → Taken f q t x → SameParts (partsShown f t) (partsShown f s)
       → (length (writtenFile f (partsShown f s)) ≡ x .end) ↔ EachShortest (fileCounts f t)
 
 -- what is accepted ends where the walk does
-ends : (f : FormatFacts) (q : ℕ) (t : List ℕ) (x : Walked) → Taken f q t x → noneMet (fileRules f q t) × (fileEnd f t ≡ x .end)
+ends : (f : FormatFacts) (q : ℕ) (t : List ℕ) (x : Ends) → Taken f q t x → noneMet (fileRules f q t) × (fileEnd f t ≡ x .end)
 unfolding fileEnd
-ends f q t x taken = let a = taken-none f q t x taken in (a .0, ap (λ (y : Walked). y .end) (a .1))
+ends f q t x taken = let a = taken-none f q t x taken in (a .0, ap (λ (y : Ends). y .end) (a .1))
 
-pub demand : (f : FormatFacts) → Proper f → (places : ℕ) (s : List ℕ) (w : Walked) → Bytes s → Taken f places s w → Demand f places s w
+pub demand : (f : FormatFacts) → Proper f → (places : ℕ) (s : List ℕ) (w : Ends) → Bytes s → Taken f places s w → Demand f places s w
 unfolding writeOutcome
 demand f k places s w bs taken =
     let p = partsShown f s in

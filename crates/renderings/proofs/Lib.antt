@@ -5,7 +5,9 @@ pub mod Map
 pub mod Written
 pub mod Valid
 pub mod Answers
+pub mod Long
 pub mod Rendered
+pub mod Bytes
 pub mod Demand
 pub mod Indexed
 pub mod Examples

@@ -14,8 +14,7 @@ use lib.Seq.{take-at, drop-at, length-take-le}
 use Rattle.wire.specs.Table.{noneMet}
 use Rattle.wire.specs.Le.{over}
 use Rattle.wire.specs.Rows.{Below}
-use Rattle.wire.specs.Counts.{shortestLen}
-use Rattle.wire.specs.declared.count.Count.{Count}
+use Rattle.wire.specs.Counts.{shortestLen, countOf}
 use Rattle.advice.proofs.Pieces.{Entry, entriesPiece}
 use Rattle.writer.specs.Parts.{joined, EachShortest}
 use Rattle.writer.specs.Writer.{sum, adviceBytes, keyRules}
@@ -41,13 +40,10 @@ module _ (m : ℕ) where
 
 -- ---- the entries of keys, lengths in so many bytes each, and values
 
-abbrev pub counting : ℕ → ℕ → Count
-counting l n = record { value = n; len = l }
-
 abbrev pub entriesFrom : List ℕ → List ℕ → List ℕ → List ℕ → List Entry
 entriesFrom keys [] ls values = []
 entriesFrom keys (n ∷ ns) [] values = []
-entriesFrom keys (n ∷ ns) (l ∷ ls) values = (take 4 keys, (counting l n, take n values)) ∷ entriesFrom (drop 4 keys) ns ls (drop n values)
+entriesFrom keys (n ∷ ns) (l ∷ ls) values = (take 4 keys, (countOf l n, take n values)) ∷ entriesFrom (drop 4 keys) ns ls (drop n values)
 
 -- the writer's bytes have each length in its shortest form
 pub short-forms : (keys lengths values : List ℕ) → adviceForms keys lengths (map shortestLen lengths) values ≡ adviceBytes keys lengths values
@@ -133,7 +129,7 @@ module _ (places : ℕ) where
       let y = drop-at (e .1 .1) (joined (map valuesOf es)) (e .1 .0 .value) (vals .0) in
       record {
         counted = ap suc (ih .counted);
-        whole = rw (k, l, x, y, ih .whole);
+        whole = rw (k, l, x, y, ih .whole, ← size .0 .1);
         trimmed = rw (k, l, x, y, ih .trimmed);
         tight = (λ t. (t .0 .1 .0, ih .tight .0 (t .1)), λ t. ((tt, (t .0, tt)), ih .tight .1 (t .1)));
         keys = rw length-append (omega (arith, key .0 .0, ih .keys));
@@ -141,7 +137,7 @@ module _ (places : ℕ) where
         keysFit = below-append (2 ^ 64) (e .0) (joined (map keyOf es)) (key .0 .1) (ih .keysFit);
         valuesFit = below-append (2 ^ 64) (e .1 .1) (joined (map valuesOf es)) (vals .1) (ih .valuesFit);
         valueBytes = (omega (arith, ltb-false (2 ^ 64 - 1) (8 * e .1 .0 .value) (size .1 .0)), ih .valueBytes);
-        forms = (size .0, ih .forms);
+        forms = (size .0 .0, ih .forms);
         tested = λ i. rw (k, l) (key .1 .0, (g .0 .1 .1 .0, ih .tested (i + 1)));
       }
 
@@ -164,7 +160,7 @@ module _ (places : ℕ) where
         (
           (room, tt),
           (
-            (((four, below-take (2 ^ 64) 4 keys kf), (t .0, tt)), ((f .0, (small, tt)), (long, below-take (2 ^ 64) n values vf))),
+            (((four, below-take (2 ^ 64) 4 keys kf), (t .0, tt)), (((f .0, refl), (small, tt)), (long, below-take (2 ^ 64) n values vf))),
             (t .1 .0, tt),
           ),
         ),
@@ -172,7 +168,7 @@ module _ (places : ℕ) where
       )
 
   -- what trimming leaves as it is
-  pub kept : {A : Type 0} (g : Entry → A) → ((e : Entry) → g (e .0, (counting (shortestLen (e .1 .0 .value)) (e .1 .0 .value), e .1 .1)) ≡ g e)
+  pub kept : {A : Type 0} (g : Entry → A) → ((e : Entry) → g (e .0, (countOf (shortestLen (e .1 .0 .value)) (e .1 .0 .value), e .1 .1)) ≡ g e)
       → (n : ℕ) (seen : List (List ℕ)) (es : List Entry) → map g (entriesPiece places n seen .trim es) ≡ map g es
   kept g same zero seen es = refl
   kept g same (suc n) seen [] = refl

@@ -11,13 +11,11 @@ use lib.ListN.{length, take, drop, take-append-drop}
 use Rattle.wire.specs.Table.{noneMet}
 use Rattle.wire.specs.Le.{Bytes}
 use Rattle.wire.proofs.Piece.{found, made}
-use Rattle.layout.specs.Scan.{mapAt}
 use Rattle.layout.specs.declared.facts.FormatFacts.{FormatFacts}
-use Rattle.advice.specs.Walk.{Walked, walked}
 use Rattle.writer.specs.Parts.{Parts, partsShown, fileEnd, fileCounts}
 use Rattle.layout.specs.Given.{Proper}
-use Rattle.renderings.specs.Rendering.{Taken, fileRules, Lengths, lengthsShown, renderedFile, Lengthened, Valid, Rendering}
-use Rattle.renderings.proofs.Answers.{none-taken, taken-none}
+use Rattle.renderings.specs.Rendering.{Ends, Taken, fileRules, Lengths, lengthsShown, renderedFile, Lengthened, Valid, Rendering}
+use Rattle.renderings.proofs.Answers.{endsAt, none-taken, taken-none}
 use Rattle.renderings.proofs.File.{File, file, entryCountOf}
 use Rattle.renderings.proofs.Shown.{partsOf, countsOf, lengthsOf, rules-same, end-same, parts-same, counts-same, lengths-same}
 use Rattle.renderings.proofs.Written.{valueOf, rendered-form, whole-file, joined-said}
@@ -63,7 +61,7 @@ module _ (f : FormatFacts) (k : Proper f) (places : ℕ) where
   accepts-form v rest good =
       let s = file f k places .form v ++ rest in
       let r = made (file f k places) v rest good in
-      let same : walked s (mapAt f s) ≡ record { entries = entryCountOf v .value; end = length (file f k places .form v) } =
+      let same : endsAt f places s ≡ record { entries = entryCountOf v .value; end = length (file f k places .form v) } =
       (λ i. record { entries = entryCountOf (r .1 i) .value; end = (end-same f k places s ∙ r .2) i }) in
       record {
         taken = rw same at (none-taken f places s (rw (rules-same f k places s) (r .0)));
@@ -97,7 +95,7 @@ module _ (f : FormatFacts) (k : Proper f) (places : ℕ) where
         subst (λ (t : List ℕ). Shows (partsShown f s) l t) e (rendering-accepted (partsShown f s) l (drop (fileEnd f s) s) (r .valid) (r .lengthened))
 
     module _ (bs : Bytes s) where
-      module _ (w : Walked) (taken : Taken f places s w) where
+      module _ (w : Ends) (taken : Taken f places s w) where
         abbrev v : File
         v = file f k places .value s 0
 
@@ -111,7 +109,7 @@ module _ (f : FormatFacts) (k : Proper f) (places : ℕ) where
         taken-entries =
             ap (λ (p : Parts). length (p .lengths)) (r .parts)
             ∙ joined-said f k places v (r .good) .counted
-            ∙ ap (λ (x : Walked). x .entries) (taken-none f places s w taken .1)
+            ∙ ap (λ (x : Ends). x .entries) (taken-none f places s w taken .1)
 
         pub taken-rendering : Rendering f places s (lengthsShown f s)
         taken-rendering =
@@ -124,5 +122,5 @@ module _ (f : FormatFacts) (k : Proper f) (places : ℕ) where
             }
 
       -- accepted exactly if it is a rendering of its parts
-      pub exactly : ((w : Walked) × Taken f places s w) ↔ ((l : Lengths) × Rendering f places s l)
+      pub exactly : ((w : Ends) × Taken f places s w) ↔ ((l : Lengths) × Rendering f places s l)
       exactly = (λ t. (lengthsShown f s, taken-rendering (t .0) (t .1)), λ x. (_, shows (x .0) (x .1) .taken))

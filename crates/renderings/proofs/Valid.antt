@@ -75,11 +75,11 @@ module _ (f : FormatFacts) (k : Proper f) (places : ℕ) (v : File) (good : file
       let b = good .0 .1 .1 .1 in
       let j = joined-said f k places v good in
       record {
-        internal = rw (internals-said f k places v good) (good .0 .1 .0);
-        external = rw (externals-said f k places v good) (good .0 .1 .1 .0 .0);
-        roots = rw (roots-said f k places v good) (b .0 .0);
-        blocks = rw (blocks-said f k places v good) (b .1 .1 .0 .0);
-        entries = rw (j .counted) (good .1 .0);
+        internal = rw (internals-said f k places v good) (good .0 .1 .0 .0);
+        external = rw (externals-said f k places v good) (good .0 .1 .1 .0 .0 .0);
+        roots = rw (roots-said f k places v good) (b .0 .0 .0);
+        blocks = rw (blocks-said f k places v good) (b .1 .1 .0 .0 .0);
+        entries = rw (j .counted) (good .1 .0 .0);
         sizes = j .forms;
       }
 
@@ -114,15 +114,15 @@ module _ (f : FormatFacts) (k : Proper f) (places : ℕ) (p : Parts) (valid : Va
         (
           ((valid .format, tt), ((tt, (valid .flagsFit, tt)), (valid .reserved, (and-false (share (p .flags) (f .hashless)), tt)))),
           (
-            long .internal,
+            (long .internal, refl),
             (
-              (long .external, (nodes, (most, (refl, (refl, (and-false (not (share (p .flags) (f .hashless))), tt)))))),
+              ((long .external, refl), (nodes, (most, (refl, (refl, (and-false (not (share (p .flags) (f .hashless))), tt)))))),
               (
-                (long .roots, (refl, (roots, tt))),
+                ((long .roots, refl), (refl, (roots, tt))),
                 (
                   (refl, valid .rootsFit),
                   (
-                    (long .blocks, (sections, (refl, tt))),
+                    ((long .blocks, refl), (sections, (refl, tt))),
                     (
                       ((refl, valid .blocksFit), ((sym n, valid .wordsFit), ((x, valid .externalFit), (y, valid .hashesFit)))),
                       (entries-mean 1 0 (p .words) .0 (valid .entries), counted),
@@ -133,7 +133,7 @@ module _ (f : FormatFacts) (k : Proper f) (places : ℕ) (p : Parts) (valid : Va
             ),
           ),
         ),
-        (long .entries, entries),
+        ((long .entries, refl), entries),
       )
 
   -- the parts and the lengths are had back

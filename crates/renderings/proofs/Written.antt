@@ -9,7 +9,7 @@ use native.Mathlib.Omega.{arith}
 use borrow.Author.Tests.{eqb-true, not-false}
 use lib.ListN.{length, length-map}
 use Rattle.wire.specs.Rows.{rows}
-use Rattle.wire.specs.Counts.{countBytes}
+use Rattle.wire.specs.Counts.{countOf, countBytes}
 use Rattle.info.specs.Entry.{entryOf}
 use Rattle.layout.specs.Scan.{externals}
 use Rattle.layout.specs.declared.facts.FormatFacts.{FormatFacts}
@@ -20,7 +20,7 @@ use Rattle.renderings.specs.Rendering.{Lengths, shortest, renderedFile}
 use Rattle.renderings.proofs.Entries.{written-read, same-externals, same-written}
 use Rattle.renderings.proofs.File.{File, body, file, flagOf, internalOf, externalOf, rootCountOf, rootsOf, blockCountOf, sectionsOf, wordsOf, entryCountOf, entriesOf}
 use Rattle.renderings.proofs.Shown.{keyOf, lengthOf, valuesOf, partsOf, countsOf, lengthsOf}
-use Rattle.renderings.proofs.Map.{counting, entriesFrom, short-forms, entries-form, Joined, good-joined, kept, entries-few, more-places}
+use Rattle.renderings.proofs.Map.{entriesFrom, short-forms, entries-form, Joined, good-joined, kept, entries-few, more-places}
 
 -- ---- the value of parts, with these words, and lengths
 
@@ -29,17 +29,17 @@ valueOf p words l = (
   (
     (tt, (p .flags, tt)),
     (
-      counting (l .internal) (internals (p .words)),
+      countOf (l .internal) (internals (p .words)),
       (
-        counting (l .external) (externals (p .words)),
+        countOf (l .external) (externals (p .words)),
         (
-          counting (l .roots) (length (p .roots)),
-          (p .roots, (counting (l .blocks) (length (p .blocks)), (p .blocks, (words, (p .external, p .hashes))))),
+          countOf (l .roots) (length (p .roots)),
+          (p .roots, (countOf (l .blocks) (length (p .blocks)), (p .blocks, (words, (p .external, p .hashes))))),
         ),
       ),
     ),
   ),
-  (counting (l .entries) (length (p .lengths)), entriesFrom (p .keys) (p .lengths) (l .sizes) (p .values)),
+  (countOf (l .entries) (length (p .lengths)), entriesFrom (p .keys) (p .lengths) (l .sizes) (p .values)),
 )
 
 -- what the writer makes of parts
@@ -111,7 +111,20 @@ module _ (f : FormatFacts) (k : Proper f) (places : ℕ) where
 
     -- a file is the value of its parts and lengths
     pub whole-file : valueOf (partsOf v) (wordsOf v) (lengthsOf v) ≡ v
-    whole-file = rw (internals-said, externals-said, roots-said, blocks-said, joined-said .counted, joined-said .whole)
+    whole-file =
+        rw (
+          internals-said,
+          externals-said,
+          roots-said,
+          blocks-said,
+          joined-said .counted,
+          joined-said .whole,
+          ← good .0 .1 .0 .1,
+          ← good .0 .1 .1 .0 .0 .1,
+          ← bodyGood .0 .0 .1,
+          ← bodyGood .1 .1 .0 .0 .1,
+          ← good .1 .0 .1,
+        )
 
     -- trimmed, it is what the writer makes of its parts
     pub trimmed-file : file f k places .trim v ≡ fileOf (partsOf v)

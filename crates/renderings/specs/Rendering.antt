@@ -13,16 +13,23 @@ use Rattle.layout.specs.Scan.{wordsRules, externals, internal, external, roots,
 use Rattle.layout.specs.declared.facts.FormatFacts.{FormatFacts}
 use Rattle.layout.specs.declared.facts.Bound.the-variants.{None}
 use Rattle.layout.specs.declared.forest.ForestLayout.{ForestLayout}
-use Rattle.advice.specs.Walk.{Advice, entryCount, Walked, mapRules, walkOutcome}
+use Rattle.advice.specs.Walk.{Advice, entryCount, mapRules, walkOutcome}
 use Rattle.writer.specs.Parts.{Parts, advice, partsShown, fileEnd}
 use Rattle.writer.specs.Writer.{internals, written, sum, keyRules}
 
+-- what is said of a map: the number of its entries, and its end
+pub record Ends : Type 0 where
+  pub entries : ℕ
+  pub end : ℕ
+
 -- The scan, with hashless files allowed and no bound, accepts s; and the walk from the offset that it gives, over so many key places, accepts
--- with the number of entries and the end w.
-pub record Taken (f : FormatFacts) (places : ℕ) (s : List ℕ) (w : Walked) : Type 0 where
+-- with the number of entries and the end w. Each says how many counts are long.
+pub record Taken (f : FormatFacts) (places : ℕ) (s : List ℕ) (w : Ends) : Type 0 where
   pub layout : ForestLayout
-  pub scanned : scanOutcome f s true None ≡ accepted layout
-  pub walked : walkOutcome places s (layout .«advice_map_offset» .0) ≡ accepted w
+  pub scanLong : ℕ
+  pub walkLong : ℕ
+  pub scanned : scanOutcome f s true None ≡ accepted (record { layout = layout; long = scanLong })
+  pub walked : walkOutcome places s (layout .«advice_map_offset» .0) ≡ accepted (record { entries = w .entries; end = w .end; long = walkLong })
 
 -- no rule of this table is met exactly if they accept
 abbrev pub fileRules : FormatFacts → ℕ → List ℕ → List Rule

@@ -2,7 +2,7 @@
 use Prim.Native.Nat.{ℕ, _-_, _*_}
 use mathlib.Core.List.{List, [], _∷_}
 use lib.ListN.{length, getD}
-use Rattle.wire.specs.Table.{Outcome, refused, accepted, At}
+use Rattle.wire.specs.Table.{Outcome, refused, accepted, pick, At}
 use Rattle.wire.specs.declared.count.Count.{Count}
 use Rattle.advice.specs.Walk.{Walked}
 use Rattle.advice.specs.Table.{MapEntry}
@@ -30,15 +30,15 @@ abbrev pub laid : {A : Type 0} → (A → List ℕ) → Outcome A → Outcome (L
 laid row (refused n p) = refused n p
 laid row (accepted v) = accepted (row v)
 
--- ---- the arrays; those of layouts, bounds and entries are crossing's
+-- ---- the arrays; those of layouts, scans, bounds and entries are crossing's
 
--- its value, its length in bytes, the place after it
+-- its value, its length in bytes, the place after it, and 1 if its length is the shortest, else 0
 abbrev pub countRow : At Count → List ℕ
-countRow c = c .value .value ∷ c .value .len ∷ c .next ∷ []
+countRow c = c .value .value ∷ c .value .len ∷ c .next ∷ pick (c .value .shortest) 1 0 ∷ []
 
--- the number of entries, the place after the map, how many bytes of the file follow it
+-- the number of entries, the place after the map, how many bytes of the file follow it, how many of its counts are long
 abbrev pub walkedRow : List ℕ → Walked → List ℕ
-walkedRow s w = w .entries ∷ w .end ∷ (length s - w .end) ∷ []
+walkedRow s w = w .entries ∷ w .end ∷ (length s - w .end) ∷ w .long ∷ []
 
 -- the four numbers of the key, the number of values, the place of the first
 abbrev pub mapEntryRow : MapEntry → List ℕ

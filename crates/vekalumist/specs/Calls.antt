@@ -20,12 +20,12 @@ use Rattle.advice.specs.Table.{mapEntryOutcome}
 use Rattle.advice.specs.Lookup.{lookupOutcome}
 use Rattle.writer.specs.Parts.{Parts}
 use Rattle.writer.specs.Writer.{writeOutcome, outputAfter}
-use Rattle.crossing.specs.Arrays.{factsOf, layoutOf, boundOf, layoutRow, boundRow, entryRow}
+use Rattle.crossing.specs.Arrays.{factsOf, layoutOf, boundOf, scannedRow, boundRow, entryRow}
 use Rattle.vekalumist.specs.Answers.{laid, countRow, walkedRow, mapEntryRow, lookedRow, partRow}
 
--- 0.3.0: the major number times 10000, the minor one times 100, and the last
+-- 0.4.0: the major number times 10000, the minor one times 100, and the last
 abbrev pub version : ℕ
-version = 300
+version = 400
 
 -- ---- counts and entries
 
@@ -60,7 +60,7 @@ unfoldable pub flagsCall : List ℕ → Outcome ℕ
 flagsCall s = firstMet (shortRule s 4 1 ∷ []) (getD s 4 0)
 
 abbrev pub scanCall : List ℕ → List ℕ → ℕ → Bool → List ℕ → Outcome (List ℕ)
-scanCall s marks most allow bound = laid layoutRow (scanOutcome (factsOf marks most) s allow (boundOf bound))
+scanCall s marks most allow bound = laid scannedRow (scanOutcome (factsOf marks most) s allow (boundOf bound))
 
 abbrev pub rootCall : List ℕ → List ℕ → ℕ → Outcome ℕ
 rootCall s layout i = rootOutcome s (layoutOf layout) i

@@ -1,4 +1,5 @@
 // Counts.
+use crate::answer::flag;
 use crate::answer::refuse;
 use wire::count::CountRead;
 use wire::count::CountWritten;
@@ -11,12 +12,12 @@ ghost use Rattle.wire.specs.Counts.{shortestLen, writeOutcome, withCount};
 ghost use Rattle.vekalumist.specs.Answers.{numberIn, answered, placed};
 ghost use Rattle.vekalumist.specs.Calls.{countCall};
 
-// The count at a place: its value, its length, the place after it.
+// The count at a place: its value, its length, the place after it, and whether its length is the shortest.
 #[no_mangle]
 pub extern "C" fn veka_raw_read_count(
     s: &[u8],
     at: usize,
-    count: &mut [u64; 3],
+    count: &mut [u64; 4],
     place: &mut u64,
 ) -> u64
     ensures { λ r. ⌜ r ≡ numberIn (countCall (now (s .entry)) at) ⌝ }
@@ -26,7 +27,8 @@ pub extern "C" fn veka_raw_read_count(
     match read_count(s, ByteOffset(at)) {
         CountRead::Refused(why, at) => refuse(why, at.0, place),
         CountRead::Whole(read, next) => {
-            *count = [read.value, read.len as u64, next.at.0 as u64];
+            let shortest = flag(read.shortest);
+            *count = [read.value, read.len as u64, next.at.0 as u64, shortest];
             0
         }
     }

@@ -7,7 +7,7 @@ use checks::check_strict;
 use crossing::bound_of;
 use crossing::facts_of;
 use crossing::layout_of;
-use crossing::layout_row;
+use crossing::scanned_row;
 use layout::index::RootRead;
 use layout::index::read_procedure_root_at;
 use layout::scan::Scan;
@@ -32,7 +32,7 @@ pub extern "C" fn veka_raw_flags(s: &[u8], flags: &mut u8, place: &mut u64) -> u
     0
 }
 
-// The layout of a file.
+// The layout of a file, and how many of its four counts are long.
 #[no_mangle]
 pub extern "C" fn veka_raw_scan(
     s: &[u8],
@@ -40,18 +40,18 @@ pub extern "C" fn veka_raw_scan(
     max_nodes: usize,
     allow: bool,
     bound: &[u64; 2],
-    layout: &mut [u64; 12],
+    scanned: &mut [u64; 13],
     place: &mut u64,
 ) -> u64
     ensures { λ r. ⌜ r ≡ numberIn (scanCall (now (s .entry)) (now (marks .entry)) «max_nodes» allow (now (bound .entry))) ⌝ }
-    ensures { λ _. ⌜ now (layout .exit) ≡ answered (now (layout .entry)) (scanCall (now (s .entry)) (now (marks .entry)) «max_nodes» allow (now (bound .entry))) ⌝ }
+    ensures { λ _. ⌜ now (scanned .exit) ≡ answered (now (scanned .entry)) (scanCall (now (s .entry)) (now (marks .entry)) «max_nodes» allow (now (bound .entry))) ⌝ }
     ensures { λ _. ⌜ now (place .exit) ≡ placed (now (place .entry)) (scanCall (now (s .entry)) (now (marks .entry)) «max_nodes» allow (now (bound .entry))) ⌝ }
 {
     let facts = facts_of(marks, max_nodes);
     match scan_layout(s, facts, allow, bound_of(bound)) {
         Scan::Refused(why, at) => refuse(why, at.0, place),
-        Scan::Accepted(l) => {
-            *layout = layout_row(l);
+        Scan::Accepted(l, long) => {
+            *scanned = scanned_row(l, long);
             0
         }
     }

@@ -12,7 +12,7 @@ pub mod write;
 ghost use mathlib.Core.Path.{_≡_};
 ghost use Rattle.vekalumist.specs.Calls.{version};
 
-const VERSION: u64 = 300;
+const VERSION: u64 = 400;
 
 // The version that is linked.
 #[no_mangle]

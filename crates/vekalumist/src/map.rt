@@ -39,13 +39,14 @@ pub extern "C" fn veka_raw_places(s: &[u8], at: usize) -> u64
     most_places(s, ByteOffset(at)) as u64
 }
 
-// The map at a place, its key offsets in the lent table: the number of entries, the place after it, the bytes that follow it.
+// The map at a place, its key offsets in the lent table: the number of entries, the place after it, the bytes that follow
+// it, and how many of its counts are long.
 #[no_mangle]
 pub extern "C" fn veka_raw_walk(
     s: &[u8],
     at: usize,
     keys: &mut [u64],
-    walked: &mut [u64; 3],
+    walked: &mut [u64; 4],
     place: &mut u64,
 ) -> u64
     ensures { λ r. ⌜ r ≡ numberIn (walkCall (length (now (keys .entry))) (now (s .entry)) at) ⌝ }
@@ -55,10 +56,10 @@ pub extern "C" fn veka_raw_walk(
 {
     match walk_map(s, ByteOffset(at), keys) {
         MapWalk::Refused(why, at) => refuse(why, at.0, place),
-        MapWalk::Walked(n, next) => {
+        MapWalk::Walked(n, next, long) => {
             let end = next.at.0;
             let trailing = bytes_after(s, end);
-            *walked = [n as u64, end as u64, trailing];
+            *walked = [n as u64, end as u64, trailing, long as u64];
             0
         }
     }

@@ -10,11 +10,11 @@ use Rattle.wire.specs.Table.{Rule, refused, accepted, pick, firstMet}
 use Rattle.wire.specs.Words.{fourAt}
 use Rattle.wire.proofs.Stages.{first-or-later}
 use Rattle.info.specs.Entry.{decodeRules}
-use Rattle.layout.specs.Scan.{wordsRules, words, entriesAt, scanRules, layoutShown, scanOutcome}
+use Rattle.layout.specs.Scan.{wordsRules, words, entriesAt, scanRules, scanShown, scanOutcome}
 use Rattle.layout.specs.declared.facts.FormatFacts.{FormatFacts}
 use Rattle.layout.specs.declared.facts.Bound.{Bound}
 use Rattle.advice.specs.Walk.{adviceRules, walkRules, nextEntry, firstEntry, entryCount, mapRules, walked, walkOutcome}
-use Rattle.whole.specs.Whole.{mapOutcome, wholeOutcome}
+use Rattle.whole.specs.Whole.{sheetOf, mapOutcome, wholeOutcome}
 
 -- a number of document 01's table
 abbrev pub Numbered : ℕ → Type 0
@@ -63,11 +63,11 @@ pub whole-numbered : (f : FormatFacts) (allow : Bool) (bound : Bound) (places : 
 unfolding wholeOutcome mapOutcome scanOutcome walkOutcome mapRules
 whole-numbered f allow bound places s n p e =
     ⊎-elim
-    (λ c. first-listed (scanRules f s allow bound) (layoutShown f s allow bound) n p (scan-listed f s allow bound) c)
+    (λ c. first-listed (scanRules f s allow bound) (scanShown f s allow bound) n p (scan-listed f s allow bound) c)
     (λ t.
-    let at = t .0 .«advice_map_offset» .0 in
+    let at = t .0 .layout .«advice_map_offset» .0 in
     ⊎-elim
     (λ c. first-listed (mapRules s at places) (walked s at) n p ((omega arith, omega arith), walk-listed places s (firstEntry s at) (entryCount s at .value) []) c)
     (λ w. let z : _≡_ {A = ℕ} 0 1 = cc (w .1 .1) in absurd (omega arith))
-    (first-or-later (walkOutcome places s at) (λ w. accepted (record { layout = t .0; entries = w .entries; end = w .end })) n p (t .1 .1)))
+    (first-or-later (walkOutcome places s at) (λ w. accepted (sheetOf (t .0) w)) n p (t .1 .1)))
     (first-or-later (scanOutcome f s allow bound) (mapOutcome places s) n p e)

@@ -17,7 +17,7 @@ use lib.ListN.{length, getD, take, drop, length-append}
 use lib.Seq.{sets-eq, take-at, take-length, drop-append-seam, length-take-le}
 use Rattle.wire.specs.Table.{At}
 use Rattle.wire.specs.Le.{Bytes}
-use Rattle.wire.specs.Counts.{countLength, counted, countRule, countOutcome, Reads, shortestLen, Form, countForm, countBytes, withCount}
+use Rattle.wire.specs.Counts.{countOf, countLength, counted, countRule, countOutcome, Reads, shortestLen, Form, countForm, countBytes, withCount}
 use Rattle.wire.specs.declared.count.Count.{Count}
 use Rattle.wire.proofs.Tables.{accepted-none}
 use Rattle.wire.proofs.Counts.{count-whole, shortest-form, write-yes}
@@ -34,7 +34,7 @@ form-reads s at len v f =
 pub read-is-form : (s : List ℕ) (at len v : ℕ) → Bytes s → Reads s at len v → FormAt s at len v
 unfolding countOutcome counted
 read-is-form s at len v bs e =
-    let k = accepted-none (countRule s at ∷ []) (record { value = counted s at; next = at + counted s at .len }) (record { value = record { value = v; len = len }; next = at + len }) e in
+    let k = accepted-none (countRule s at ∷ []) (record { value = counted s at; next = at + counted s at .len }) (record { value = countOf len v; next = at + len }) e in
     let n : countLength (getD s at 0) ≡ len = ap (λ (x : At Count). x .value .len) (k .1) in
     let value = ap (λ (x : At Count). x .value .value) (k .1) in
     let whole : at + len ≤ length s = rw n at (ltb-false (length s) (at + countLength (getD s at 0)) (k .0 .0)) in

@@ -3,7 +3,7 @@
 use mathlib.Core.Path.{_≡_, refl, sym, ap, _∙_}
 use mathlib.Core.Bool.{Bool, true, false}
 use mathlib.Core.Logic.{_⊎_, inl, inr, ⊎-elim}
-use mathlib.Core.List.{List, _∷_, _++_, append-assoc, append-nil}
+use mathlib.Core.List.{List, [], _∷_, _++_, append-assoc, append-nil}
 use Prim.Native.Nat.{ℕ, zero, suc, _+_, _-_, _*_, _/_, _%_, _^_, _≤_, _<_}
 use native.Mathlib.Nat.{lt-of-not-le, zero-add, add-sub-cancel-left}
 use borrow.Rule.Slice.PartMut.{putMid}
@@ -15,10 +15,12 @@ use lib.ListN.{length, take, drop, getD, set, drop-of-length-le}
 use lib.Pow.{pow-add, pow-mono, shl-lt, shl-exact}
 use lib.Seq.{sets, sets-eq, drop-drop}
 use native.Mathlib.Numerals.{add-one}
-use Rattle.wire.specs.Table.{refused, accepted, firstMet}
+use Rattle.wire.specs.Table.{refused, accepted, pick, firstMet, At}
 use Rattle.wire.specs.Refusals.{SHORT, ROOM}
 use Rattle.wire.specs.Le.{leAt, leBytes}
-use Rattle.wire.specs.Counts.{countLength, countValue, counted, countOutcome, leastFrom, shortestLen, Form, countForm, countBytes, writeOutcome, withCount}
+use Rattle.wire.specs.Counts.{countOf, countLength, countValue, counted, countRule, countOutcome, leastFrom, shortestLen, Form, countForm, countBytes, writeOutcome, withCount}
+use Rattle.wire.specs.declared.count.Count.{Count}
+use Rattle.wire.proofs.Tables.{accepted-none}
 
 pub lt-or-ge : (a b : ℕ) → (a < b) ⊎ (b ≤ a)
 lt-or-ge a b = go (ltb a b) refl
@@ -62,15 +64,30 @@ module _ (s : List ℕ) (at : ℕ) where
   unfolding countOutcome counted firstMet
   count-whole h = rw (le-ltb (length s) (at + lengthAt) h)
 
+  -- a count that is read is inside the file
+  pub count-inside : (c : Count) (next : ℕ) → countOutcome s at ≡ accepted (record { value = c; next = next }) → next ≤ length s
+  unfolding countOutcome
+  count-inside c next e =
+      let k = accepted-none (countRule s at ∷ []) (record { value = counted s at; next = at + counted s at .len }) (record { value = c; next = next }) e in
+      let same : at + counted s at .len ≡ next = ap (λ (x : At Count). x .next) (k .1) in
+      rw same at (ltb-false (length s) (at + counted s at .len) (k .0 .0))
+
   pub whole-upto-8 : at + lengthAt ≤ length s → lengthAt ≤ 8
-      → countOutcome s at ≡ accepted (record { value = record { value = leAt s at lengthAt / 2 ^ lengthAt; len = lengthAt }; next = at + lengthAt })
+      → countOutcome s at ≡ accepted (record { value = countOf lengthAt (leAt s at lengthAt / 2 ^ lengthAt); next = at + lengthAt })
   unfolding counted
   whole-upto-8 h m = rw (← value-upto-8 s at lengthAt m) (count-whole h)
 
   pub whole-9 : at + lengthAt ≤ length s → 8 < lengthAt
-      → countOutcome s at ≡ accepted (record { value = record { value = leAt s (at + 1) 8; len = lengthAt }; next = at + lengthAt })
+      → countOutcome s at ≡ accepted (record { value = countOf lengthAt (leAt s (at + 1) 8); next = at + lengthAt })
   unfolding counted
   whole-9 h m = rw (← value-9 s at lengthAt m) (count-whole h)
+
+-- ---- long counts
+
+-- one count is at most one long count
+pub one-most : (b : Bool) → pick b 0 1 ≤ 1
+one-most true = omega arith
+one-most false = omega arith
 
 -- ---- the shortest length
 

@@ -11,10 +11,20 @@ use lib.ListN.{length, getD, take, drop, length-take, length-drop}
 use lib.Seq.{slice, slice-cons, length-slice, getD-drop, take-add, drop-at, drop-append-le, length-take-le}
 use Rattle.wire.specs.Le.{Bytes, le, leAt, leBytes}
 
--- ---- lists of bytes: the tail, a part
+-- ---- lists of bytes: the tail, one after the other, a part
 
 pub bytes-tail : (b : ℕ) (bs : List ℕ) → Bytes (b ∷ bs) → Bytes bs
 bytes-tail b bs h i = h (suc i)
+
+pub bytes-append : (a b : List ℕ) → Bytes a → Bytes b → Bytes (a ++ b)
+bytes-append [] b h g i = g i
+bytes-append (x ∷ a) b h g zero = h 0
+bytes-append (x ∷ a) b h g (suc i) = bytes-append a b (bytes-tail x a h) g i
+
+pub bytes-front : (a b : List ℕ) → Bytes (a ++ b) → Bytes a
+bytes-front [] b h i = lit< tt
+bytes-front (x ∷ a) b h zero = h 0
+bytes-front (x ∷ a) b h (suc i) = bytes-front a b (bytes-tail x (a ++ b) h) i
 
 pub bytes-drop : (n : ℕ) (bs : List ℕ) → Bytes bs → Bytes (drop n bs)
 bytes-drop n bs h i = rw getD-drop (h (n + i))

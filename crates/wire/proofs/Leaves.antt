@@ -14,10 +14,10 @@ use borrow.Author.Tests.{ltb-false, le-ltb, eqb-true, eq-eqb, not-false}
 use Rattle.wire.specs.Table.{rule, noneMet}
 use Rattle.wire.specs.Refusals.{SHORT}
 use Rattle.wire.specs.Le.{Bytes, le, leBytes}
-use Rattle.wire.specs.Counts.{countLength, counted, shortestLen, countForm, Form}
+use Rattle.wire.specs.Counts.{countOf, countLength, counted, shortestLen, countForm, Form}
 use Rattle.wire.specs.declared.count.Count.{Count}
 use Rattle.wire.specs.Rows.{rows, numbersOf, Below, differs}
-use Rattle.wire.proofs.Le.{bytes-slice, bytes-take, bytes-drop, bytes-tail, le-below, le-leBytes-fits, leBytes-le, length-leBytes, bytes-leBytes}
+use Rattle.wire.proofs.Le.{bytes-slice, bytes-take, bytes-drop, bytes-append, le-below, le-leBytes-fits, leBytes-le, length-leBytes, bytes-leBytes}
 use Rattle.wire.proofs.Counts.{shortest-form}
 use Rattle.wire.proofs.Forms.{FormAt, read-of-form, form-of-read, length-form, shortest-least}
 use Rattle.wire.proofs.Piece.{Stands, Shorter, shorter-same, Piece, Steady, then, as-plain, stands-none}
@@ -25,7 +25,11 @@ use Rattle.wire.proofs.Piece.{Stands, Shorter, shorter-same, Piece, Ste
 -- ---- a count
 
 abbrev trimCount : Count → Count
-trimCount c = record { value = c .value; len = shortestLen (c .value) }
+trimCount c = countOf (shortestLen (c .value)) (c .value)
+
+-- a count that can stand in a file: of a length that its value has a form of, and whose flag is right
+abbrev pub GoodCount : Count → Type 0
+GoodCount c = Form (c .len) (c .value) × (c .shortest ≡ eqb (c .len) (shortestLen (c .value)))
 
 stands-form : (s : List ℕ) (at len v : ℕ) → FormAt s at len v → Stands s at (countForm len v)
 stands-form s at len v f =
@@ -38,29 +42,30 @@ form-stands s at len v f st =
     record { form = f; whole = rw l at (st .whole); bytes = rw l at (st .bytes) }
 
 pub count-sound : (s : List ℕ) (at : ℕ) → Bytes s → at ≤ length s → noneMet (rule SHORT at (ltb (length s) (at + counted s at .len)) ∷ [])
-    → Form (counted s at .len) (counted s at .value) × Stands s at (countForm (counted s at .len) (counted s at .value))
+    → GoodCount (counted s at) × Stands s at (countForm (counted s at .len) (counted s at .value))
     × (at + counted s at .len ≡ at + length (countForm (counted s at .len) (counted s at .value)))
 unfolding counted
 count-sound s at bs h none =
     let n = countLength (getD s at 0) in
     let f = form-of-read s at n bs refl (ltb-false (length s) (at + n) (none .0)) in
-    (f .form, stands-form s at n _ f, rw (length-form n _ (f .form)))
+    ((f .form, refl), stands-form s at n _ f, rw (length-form n _ (f .form)))
 
-pub count-complete : (s : List ℕ) (at : ℕ) (v : Count) → Form (v .len) (v .value) → Stands s at (countForm (v .len) (v .value))
+pub count-complete : (s : List ℕ) (at : ℕ) (v : Count) → GoodCount v → Stands s at (countForm (v .len) (v .value))
     → noneMet (rule SHORT at (ltb (length s) (at + counted s at .len)) ∷ []) × (counted s at ≡ v) × (at + counted s at .len ≡ at + length (countForm (v .len) (v .value)))
 unfolding counted
 count-complete s at v good st =
-    let f = form-stands s at (v .len) (v .value) good st in
+    let f = form-stands s at (v .len) (v .value) (good .0) st in
     let r = read-of-form s at (v .len) (v .value) f in
-    rw (r .0) ((le-ltb (length s) (at + v .len) (f .whole), tt), rw (r .1), rw (length-form (v .len) (v .value) good))
+    let flag : (b : Bool) → v .shortest ≡ b → record { value = v .value; len = v .len; shortest = b } ≡ v = λ b e. rw (← e) in
+    rw (r .0) ((le-ltb (length s) (at + v .len) (f .whole), tt), rw (r .1) (flag _ (good .1)), rw (length-form (v .len) (v .value) (good .0)))
 
-pub count-trimmed : (v : Count) → Form (v .len) (v .value)
-    → Form (shortestLen (v .value)) (v .value) × Shorter (countForm (shortestLen (v .value)) (v .value)) (countForm (v .len) (v .value)) (v .len ≡ shortestLen (v .value))
+pub count-trimmed : (v : Count) → GoodCount v
+    → GoodCount (trimCount v) × Shorter (countForm (shortestLen (v .value)) (v .value)) (countForm (v .len) (v .value)) (v .len ≡ shortestLen (v .value))
 count-trimmed v good =
-    let g = shortest-form (v .value) (good .word) in
-    let a = length-form (v .len) (v .value) good in
+    let g = shortest-form (v .value) (good .0 .word) in
+    let a = length-form (v .len) (v .value) (good .0) in
     let b = length-form (shortestLen (v .value)) (v .value) g in
-    (g, record { least = omega (arith, shortest-least (v .len) (v .value) good); equal = λ e. omega arith; tight = λ t. omega arith })
+    ((g, refl), record { least = omega (arith, shortest-least (v .len) (v .value) (good .0)); equal = λ e. omega arith; tight = λ t. omega arith })
 
 abbrev pub count : Piece Count
 count =
@@ -69,7 +74,7 @@ count =
       value = counted;
       next = λ s at. at + counted s at .len;
       form = λ c. countForm (c .len) (c .value);
-      Good = λ c. Form (c .len) (c .value);
+      Good = GoodCount;
       trim = trimCount;
       Tight = λ c. c .len ≡ shortestLen (c .value);
       sound = count-sound;
@@ -195,12 +200,7 @@ module _ (k : ℕ) where
   length-rows [] = omega arith
   length-rows (x ∷ xs) = length-append (leBytes k x) (rows k xs) ∙ omega (arith, length-leBytes k x, length-rows xs)
 
-  bytes-append : (a b : List ℕ) → Bytes a → Bytes b → Bytes (a ++ b)
-  bytes-append [] b h g i = g i
-  bytes-append (x ∷ a) b h g zero = h 0
-  bytes-append (x ∷ a) b h g (suc i) = bytes-append a b (bytes-tail x a h) g i
-
-  bytes-rows : (xs : List ℕ) → Bytes (rows k xs)
+  pub bytes-rows : (xs : List ℕ) → Bytes (rows k xs)
   unfolding rows
   bytes-rows [] i = lit< tt
   bytes-rows (x ∷ xs) i = bytes-append (leBytes k x) (rows k xs) (bytes-leBytes k x) (bytes-rows xs) i

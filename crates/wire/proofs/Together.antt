@@ -1,13 +1,13 @@
 -- A count out of the eight bytes at its place, read together: two shifts leave its value. One law for every length.
 -- Assumes nothing.
-use mathlib.Core.Path.{_≡_}
+use mathlib.Core.Path.{_≡_, sym}
 use mathlib.Core.List.{List}
 use Prim.Native.Nat.{ℕ, _+_, _-_, _*_, _/_, _%_, _^_, _≤_, _<_}
 use native.Mathlib.Nat.{mod-eq-of-lt, lt-of-not-le, mul-div-mul-right}
 use native.Mathlib.Omega.{arith}
 use lib.Count.{trailingZeros, trailing-le}
 use lib.ListN.{length}
-use lib.Pow.{pow-pos, pow-add, low, shl-lt}
+use lib.Pow.{pow-pos, pow-add, low, shl-lt, shr-shr}
 use Rattle.wire.specs.Le.{Bytes, leAt}
 use Rattle.wire.proofs.Le.{le-parts, le-slice-below}
 use Rattle.wire.proofs.Forms.{pow-256, trailing-all}
@@ -26,6 +26,12 @@ shifted-field a r j k n h =
 -- the bits that tell its length.
 abbrev pub shifted : ℕ → ℕ → ℕ
 shifted word zeros = word * 2 ^ (56 - 8 * zeros) % 2 ^ 64 / 2 ^ (57 - 7 * zeros)
+
+-- in between, what is above its lowest 57 bits is above the value's lowest seven for each byte but the first
+pub top-seven : (word zeros : ℕ) → zeros < 8 → word * 2 ^ (56 - 8 * zeros) % 2 ^ 64 / 2 ^ 57 ≡ shifted word zeros / 2 ^ (7 * zeros)
+top-seven word zeros m =
+    let all : 57 - 7 * zeros + 7 * zeros ≡ 57 = omega arith in
+    sym (rw all at (shr-shr (word * 2 ^ (56 - 8 * zeros) % 2 ^ 64) (57 - 7 * zeros) (7 * zeros)))
 
 -- what is left is the count's own bytes, one more than its zeros, without as many low bits as they are bytes
 pub value-together : (s : List ℕ) (at zeros : ℕ) → Bytes s → at + 8 ≤ length s → zeros < 8

@@ -5,12 +5,32 @@ use mathlib.Core.Bool.{Bool}
 use mathlib.Core.List.{List, [], _∷_}
 use lib.ListN.{length, getD}
 use lib.Seq.{sets}
-use lib.Dec.{leb, ltb}
+use lib.Dec.{leb, ltb, eqb}
 use lib.Count.{trailingZeros}
 use Rattle.wire.specs.Table.{Rule, rule, Outcome, accepted, pick, firstMet, At}
 use Rattle.wire.specs.Refusals.{ROOM}
 use Rattle.wire.specs.Le.{leAt, leBytes, shortRule}
 use Rattle.wire.specs.declared.count.Count.{Count}
+
+-- ---- the shortest length
+
+-- the least length from `len` on with v < 2 ^ (7 * length), of k tries; else the length after those
+unfoldable pub leastFrom : ℕ → ℕ → ℕ → ℕ
+leastFrom zero len v = len
+leastFrom (suc k) len v = pick (ltb v (2 ^ (7 * len))) len (leastFrom k (len + 1) v)
+
+-- the least length from 1 to 8 with v < 2 ^ (7 * length), else 9
+unfoldable pub shortestLen : ℕ → ℕ
+shortestLen v = leastFrom 8 1 v
+
+-- v in `len` bytes: a count is the shortest if that is v's shortest length, else it is long
+abbrev pub countOf : ℕ → ℕ → Count
+countOf len v = record { value = v; len = len; shortest = eqb len (shortestLen v) }
+
+-- how many counts of a list are long
+unfoldable pub longOnes : List Count → ℕ
+longOnes [] = 0
+longOnes (c ∷ cs) = pick (c .shortest) 0 1 + longOnes cs
 
 -- ---- reading
 
@@ -22,9 +42,9 @@ countLength b = trailingZeros 8 b + 1
 unfoldable pub countValue : List ℕ → ℕ → ℕ → ℕ
 countValue s at len = pick (leb len 8) (leAt s at len / 2 ^ len) (leAt s (at + 1) 8)
 
--- what the count at `at` says, where it is whole: its value, and its length in bytes
+-- what the count at `at` says, where it is whole: its value, its length in bytes, and whether that is the shortest
 unfoldable pub counted : List ℕ → ℕ → Count
-counted s at = let n = countLength (getD s at 0) in record { value = countValue s at n; len = n }
+counted s at = let n = countLength (getD s at 0) in countOf n (countValue s at n)
 
 -- a count that is not whole: SHORT [its start]
 abbrev pub countRule : List ℕ → ℕ → Rule
@@ -35,18 +55,9 @@ countOutcome s at = firstMet (countRule s at ∷ []) (record { value = counted s
 
 -- a count of v in len bytes was read at `at`
 abbrev pub Reads : List ℕ → ℕ → ℕ → ℕ → Type 0
-Reads s at len v = countOutcome s at ≡ accepted (record { value = record { value = v; len = len }; next = at + len })
+Reads s at len v = countOutcome s at ≡ accepted (record { value = countOf len v; next = at + len })
 
 -- ---- writing
-
--- the least length from `len` on with v < 2 ^ (7 * length), of k tries; else the length after those
-unfoldable pub leastFrom : ℕ → ℕ → ℕ → ℕ
-leastFrom zero len v = len
-leastFrom (suc k) len v = pick (ltb v (2 ^ (7 * len))) len (leastFrom k (len + 1) v)
-
--- the least length from 1 to 8 with v < 2 ^ (7 * length), else 9
-unfoldable pub shortestLen : ℕ → ℕ
-shortestLen v = leastFrom 8 1 v
 
 -- The form of v in `len` bytes. Up to 8: v, above a one, above `len - 1` zeros. 9: the byte 0, and v in 8 bytes.
 unfoldable pub countForm : ℕ → ℕ → List ℕ

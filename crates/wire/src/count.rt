@@ -8,24 +8,32 @@ use crate::units::ByteOffset;
 use crate::units::Cursor;
 ghost use mathlib.Core.Path.{_≡_};
 ghost use mathlib.Core.Bool.{true};
-ghost use Prim.Native.Nat.{_+_, _^_, _≤_, _<_};
+ghost use Prim.Native.Nat.{_+_, _≤_};
 ghost use lib.ListN.{length, getD};
+ghost use lib.Dec.{eqb};
 ghost use lib.Seq.{sets};
-ghost use Rattle.wire.specs.Table.{accepted};
+ghost use Rattle.wire.specs.Table.{pick};
 ghost use Rattle.wire.specs.Le.{leAt, isShort};
 ghost use Rattle.wire.specs.Counts.{countOutcome, shortestLen, Form, countForm, writeOutcome, withCount};
-ghost use Rattle.wire.specs.Shown.{shownCount, shownWritten};
+ghost use Rattle.wire.specs.Shown.{shownFound, shownCount, shownWritten};
 
-// A count as it stands in a file: what it says, and in how many bytes.
+// A count as it stands in a file: what it says, in how many bytes, and whether no fewer would do.
 pub struct Count {
     pub value: u64,
     pub len: usize,
+    pub shortest: bool,
 }
 
 // A count with the place after it, or why there is none.
 pub enum CountRead {
     Whole(Count, Cursor),
     Refused(Refusal, ByteOffset),
+}
+
+// What a count says, in how many bytes and whether no fewer would do, or that it is not whole.
+enum Found {
+    Whole(u64, usize, bool),
+    Short,
 }
 
 // The place after a count that was written, or why it was not.
@@ -48,50 +56,51 @@ fn read_le(s: &[u8], at: usize, n: usize) -> u64
     acc
 }
 
-// A count of len bytes at `from`, and the place after it.
-fn whole(from: usize, len: usize, value: u64) -> CountRead
-    requires { ⌜ from + len < 2 ^ 64 ⌝ }
-    ensures { λ r. ⌜ shownCount r ≡ accepted (record { value = record { value = value; len = len }; next = from + len }) ⌝ }
+// Whether v has no form of fewer than len bytes: they are one, or something stands above what one byte
+// less would hold.
+fn is_shortest(len: usize, v: u64) -> bool
+    requires { ⌜ Form len v ⌝ }
+    ensures { λ r. ⌜ r ≡ eqb len (shortestLen v) ⌝ }
 {
-    let next = Cursor {
-        at: ByteOffset(from + len),
-    };
-    CountRead::Whole(Count { value, len }, next)
+    (len == 1) | (v >> (7 * (len - 1)) != 0)
 }
 
 // The count at a place with fewer than eight bytes left, byte by byte.
-fn count_near_end(s: &[u8], at: ByteOffset) -> CountRead
+fn count_near_end(s: &[u8], at: ByteOffset) -> Found
     requires { ⌜ isShort (now s) (at .0) 8 ≡ true ⌝ }
-    ensures { λ r. ⌜ shownCount r ≡ countOutcome (now (s .entry)) (at .0) ⌝ }
+    ensures { λ r. ⌜ shownFound (at .0) r ≡ countOutcome (now (s .entry)) (at .0) ⌝ }
 {
     let from = at.0;
     if s.len() <= from {
-        return CountRead::Refused(Refusal::Short, at);
+        return Found::Short;
     }
     let len = u8::trailing_zeros(s[from]) as usize + 1;
     if s.len() - from < len {
-        return CountRead::Refused(Refusal::Short, at);
+        return Found::Short;
     }
-    whole(from, len, read_le(s, from, len) >> len)
+    let value = read_le(s, from, len) >> len;
+    Found::Whole(value, len, is_shortest(len, value))
 }
 
 // The count at a place with eight bytes left, or more, of which the first is 0: the eight after it, if
 // nine are left.
-fn longest_count(s: &[u8], at: ByteOffset) -> CountRead
+fn longest_count(s: &[u8], at: ByteOffset) -> Found
     requires { ⌜ (at .0 + 8 ≤ length (now s)) × (getD (now s) (at .0) 0 ≡ 0) ⌝ }
-    ensures { λ r. ⌜ shownCount r ≡ countOutcome (now (s .entry)) (at .0) ⌝ }
+    ensures { λ r. ⌜ shownFound (at .0) r ≡ countOutcome (now (s .entry)) (at .0) ⌝ }
 {
     let from = at.0;
     if s.len() - 8 == from {
-        return CountRead::Refused(Refusal::Short, at);
+        return Found::Short;
     }
-    whole(from, 9, eight_in(s, from + 1))
+    let value = eight_in(s, from + 1);
+    Found::Whole(value, 9, is_shortest(9, value))
 }
 
 // The count at a place. Where eight bytes are left they are read together and shifted: up, which drops
-// the bytes behind the count, and down past the bits that tell its length.
-pub fn read_count(s: &[u8], at: ByteOffset) -> CountRead
-    ensures { λ r. ⌜ shownCount r ≡ countOutcome (now (s .entry)) (at .0) ⌝ }
+// the bytes behind the count, and down past the bits that tell its length. Between the two its top seven
+// bits are the word's.
+fn find_count(s: &[u8], at: ByteOffset) -> Found
+    ensures { λ r. ⌜ shownFound (at .0) r ≡ countOutcome (now (s .entry)) (at .0) ⌝ }
 {
     if is_short(s, at, 8) {
         return count_near_end(s, at);
@@ -102,8 +111,40 @@ pub fn read_count(s: &[u8], at: ByteOffset) -> CountRead
         return longest_count(s, at);
     }
     let zeros = u8::trailing_zeros(first) as usize;
-    let value = (eight_in(s, from) << (56 - 8 * zeros)) >> (57 - 7 * zeros);
-    whole(from, zeros + 1, value)
+    let up = eight_in(s, from) << (56 - 8 * zeros);
+    let shortest = (zeros == 0) | (up >> 57 != 0);
+    Found::Whole(up >> (57 - 7 * zeros), zeros + 1, shortest)
+}
+
+// The count at a place, and the place after it. The answer is made once, of whatever was found, so that
+// this stays small enough to be compiled into its callers.
+pub fn read_count(s: &[u8], at: ByteOffset) -> CountRead
+    ensures { λ r. ⌜ shownCount r ≡ countOutcome (now (s .entry)) (at .0) ⌝ }
+{
+    match find_count(s, at) {
+        Found::Short => CountRead::Refused(Refusal::Short, at),
+        Found::Whole(value, len, shortest) => {
+            let next = Cursor {
+                at: ByteOffset(at.0 + len),
+            };
+            let count = Count {
+                value,
+                len,
+                shortest,
+            };
+            CountRead::Whole(count, next)
+        }
+    }
+}
+
+// How many long counts one count is: none if it is the shortest.
+pub fn long_one(shortest: bool) -> usize
+    ensures { λ r. ⌜ (r ≡ pick shortest 0 1) × (r ≤ 1) ⌝ }
+{
+    if shortest {
+        return 0;
+    }
+    1
 }
 
 // The length of v's shortest form.

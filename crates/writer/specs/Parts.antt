@@ -8,9 +8,9 @@ use Rattle.wire.specs.Counts.{shortestLen}
 use Rattle.wire.specs.declared.count.Count.{Count}
 use Rattle.info.specs.Entry.{entryOf}
 use Rattle.info.specs.declared.MastNodeEntry.{MastNodeEntry}
-use Rattle.layout.specs.Scan.{flagsOf, internal, external, roots, rootRows, blocksAt, blocks, blockData, entriesAt, digestsAt, hashesAt, mapAt, words}
+use Rattle.layout.specs.Scan.{flagsOf, roots, rootRows, blocksAt, blockData, entriesAt, digestsAt, hashesAt, mapAt, words, headCounts}
 use Rattle.layout.specs.declared.facts.FormatFacts.{FormatFacts}
-use Rattle.advice.specs.Walk.{Advice, walkShown, walkEnd, entryCount, firstEntry}
+use Rattle.advice.specs.Walk.{Advice, walkShown, walkEnd, entryCount, firstEntry, mapCounts}
 
 -- the flags; the roots; the block bytes; the entry words; the bytes of the external digests and of the hashes; four numbers a key; the length
 -- of each key's values; the values, one key's after the other's
@@ -87,8 +87,7 @@ module _ (f : FormatFacts) (s : List ℕ) where
 
   -- its counts, in the file's order
   unfoldable pub fileCounts : List Count
-  fileCounts =
-      internal f s ∷ external f s ∷ roots f s ∷ blocks f s ∷ entryCount s (mapAt f s) ∷ map (λ (a : Advice). a .size) advice
+  fileCounts = headCounts f s ++ mapCounts s (mapAt f s)
 
 -- each count has its shortest form
 abbrev pub EachShortest : List Count → Type 0

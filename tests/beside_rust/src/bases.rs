@@ -6,18 +6,18 @@ use crate::{
     told::{Entry, Layout},
 };
 
-const EXTERNAL: u64 = 8 << 60;
+pub const EXTERNAL: u64 = 8 << 60;
 const BLOCK: u64 = 3 << 60;
-const DYN: u64 = 6 << 60;
+pub const DYN: u64 = 6 << 60;
 const LOOP_9: u64 = 2 << 60 | 9;
 const BAD_TAG: u64 = 9 << 60;
 const JOIN_0_1: u64 = 1;
 
-fn header(hashless: u8) -> Vec<u8> {
+pub fn header(hashless: u8) -> Vec<u8> {
     [&b"MAST"[..], &[hashless, 0, 0, 1]].concat()
 }
 
-fn words(words: &[u64]) -> Vec<u8> {
+pub fn words(words: &[u64]) -> Vec<u8> {
     words.iter().flat_map(|w| w.to_le_bytes()).collect()
 }
 

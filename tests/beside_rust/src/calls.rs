@@ -1,7 +1,14 @@
 //! One call of each entry point, and the answer it is held against.
 use published::answers::{self, Refused, Walked as PublishedMap};
 
-use crate::{input::Input, make, model, ours, points::Point, run::Run, told::*};
+use crate::{
+    forms::{Form, Place},
+    input::Input,
+    make, model, ours,
+    points::Point,
+    run::Run,
+    told::*,
+};
 
 impl Run {
     // COUNTS: the shim's vint64 is no oracle, so these are held against the model's.
@@ -9,6 +16,9 @@ impl Run {
     pub fn read_count(&mut self, bytes: &[u8], at: usize) {
         let input = Input { bytes, index: Some(at), ..Input::default() };
         let document = model::read_count(bytes, at);
+        if let Ok(Count { value, len, .. }) = document {
+            self.forms.note(&Form { place: Place::Alone, value, len, left: bytes.len() - at });
+        }
         self.beside_model(Point::ReadCount, &input, ours::read_count(bytes, at), document);
     }
 
@@ -57,16 +67,25 @@ impl Run {
         self.beside_model(Point::Flags, &input, ours::flags(bytes), model::flags(bytes));
     }
 
-    /// The layout, if the proved code accepts.
+    /// The layout, if the proved code accepts. The number of long counts is held against the model's too.
     pub fn scan(&mut self, bytes: &[u8], allow: bool, bound: Option<usize>) -> Option<Layout> {
         let facts = self.facts;
         let input = Input { facts: Some(&facts), bytes, allow, bound, ..Input::default() };
         let ours = ours::scan(bytes, &facts, allow, bound);
-        let layout = ours.ok();
-        let rust = answers::scan(bytes, allow, bound).map(|(_, layout)| layout);
         let document = || model::scan(bytes, &facts, allow, bound);
+        let rust = answers::scan(bytes, allow, bound).map(|file| {
+            let forms = forms_of_file(bytes, &file);
+            if ours.is_ok() {
+                self.forms.note_file(&forms);
+            }
+            Scanned { layout: file.layout, long: long(&forms) }
+        });
         self.beside_rust(Point::Scan, &input, ours, rust, document);
-        layout
+        if let Ok(Scanned { long, .. }) = ours {
+            let document = document().map(|scanned| scanned.long);
+            self.beside_model(Point::ScanLong, &input, Ok(long), document);
+        }
+        ours.ok().map(|scanned| scanned.layout)
     }
 
     // BY INDEX
@@ -171,8 +190,10 @@ impl Run {
         let input = Input { bytes, index, places: lent, ..Input::default() };
         let ours = ours::walk_map(bytes, at, places);
         let walked = ours.clone().ok();
-        let document = || model::walk_map(bytes, at, places);
-        self.beside_rust(Point::Walk, &input, ours, published_walk(bytes, at), document);
+        let rust = self.published_walk(bytes, at);
+        let document = model::walk_map(bytes, at, places);
+        self.beside_rust(Point::Walk, &input, ours, rust, || document.clone());
+        self.walk_long(&input, walked.as_ref(), &document);
         walked
     }
 
@@ -182,12 +203,29 @@ impl Run {
         let input = Input { bytes, index, places: lent, ..Input::default() };
         let ours = ours::walk_map(bytes, at, places);
         let document = model::walk_map(bytes, at, places);
+        self.walk_long(&input, ours.as_ref().ok(), &document);
         if document.as_ref().is_err_and(|r| r.number == ROOM) {
             self.beside_model(Point::Walk, &input, ours, document);
         } else {
-            let rust = published_walk(bytes, at);
+            let rust = self.published_walk(bytes, at);
             self.beside_rust(Point::Walk, &input, ours, rust, || document.clone());
         }
+    }
+
+    /// The number of long counts of an accepted map, held against the model's.
+    fn walk_long(&mut self, input: &Input, ours: Option<&Walked>, document: &Told<Walked>) {
+        if let Some(Walked { long, .. }) = ours {
+            let document = document.as_ref().map(|walked| walked.long).map_err(|r| *r);
+            self.beside_model(Point::WalkLong, input, Ok(*long), document);
+        }
+    }
+
+    fn published_walk(&mut self, bytes: &[u8], at: usize) -> Result<Walked, Refused> {
+        let (rows, end) = answers::walk(bytes, at)?;
+        let forms = forms_of_map(bytes, at, &rows, end);
+        forms.iter().for_each(|form| self.forms.note(form));
+        let keys = rows.iter().map(|r| r.key_at as u64).collect();
+        Ok(Walked { keys, end, trailing: bytes.len() - end, long: long(&forms) })
     }
 
     /// The key and the entry at a place of any table.
@@ -250,10 +288,11 @@ impl Run {
         }
         let input = Input { bytes, index: Some(at), ..Input::default() };
         let whole = held.as_ref().map_err(|r| *r).map(|h| h.whole());
-        let rust = Ok([map.rows.len(), map.end, bytes.len() - map.end]);
+        let forms = forms_of_map(bytes, at, &map.rows, map.end);
+        let rust = Ok([map.rows.len(), map.end, bytes.len() - map.end, long(&forms)]);
         self.beside_rust(Point::HeldWhole, &input, whole, rust, || {
             let walked = model::walk_map(bytes, at, keys.len())?;
-            Ok([walked.keys.len(), walked.end, walked.trailing])
+            Ok([walked.keys.len(), walked.end, walked.trailing, walked.long])
         });
         for index in (0..=keys.len().min(3)).chain([self.rng.below(keys.len() + 1)]) {
             self.at_place_walked(bytes, map, &keys, index);
@@ -354,10 +393,40 @@ fn published_strict(bytes: &[u8], l: &Layout) -> Result<(), Refused> {
     Ok(())
 }
 
-fn published_walk(bytes: &[u8], at: usize) -> Result<Walked, Refused> {
-    let (rows, end) = answers::walk(bytes, at)?;
-    let keys = rows.iter().map(|r| r.key_at as u64).collect();
-    Ok(Walked { keys, end, trailing: bytes.len() - end })
+// The Rust has no number of long counts. Where its reads began tells how many bytes each count has, and
+// its answers tell the number of each.
+
+fn long(forms: &[Form]) -> usize {
+    forms.iter().filter(|form| form.is_long()).count()
+}
+
+fn forms_of_file(bytes: &[u8], file: &answers::File) -> [Form; 4] {
+    let (l, [internal, external, roots, block]) = (&file.layout, file.counts);
+    let form = |place, value: usize, at: usize, end: usize| Form {
+        place,
+        value: value as u64,
+        len: end - at,
+        left: bytes.len() - at,
+    };
+    [
+        form(Place::Internal, l.internal_node_count, internal, external),
+        form(Place::External, l.external_node_count, external, roots),
+        form(Place::Roots, l.roots_count, roots, l.roots_offset),
+        form(Place::Block, l.basic_block_len, block, l.basic_block_offset),
+    ]
+}
+
+/// The map's own count ends where its first key begins, or the map ends.
+fn forms_of_map(bytes: &[u8], at: usize, rows: &[answers::Row], end: usize) -> Vec<Form> {
+    let first = rows.iter().map(|r| r.key_at).min().unwrap_or(end);
+    let (value, left) = (rows.len() as u64, bytes.len() - at);
+    let own = Form { place: Place::Entries, value, len: first - at, left };
+    let length = |r: &answers::Row| {
+        let at = r.key_at + 32;
+        let (len, left) = (r.values_at - at, bytes.len() - at);
+        Form { place: Place::Values, value: r.len as u64, len, left }
+    };
+    [own].into_iter().chain(rows.iter().map(length)).collect()
 }
 
 /// The published map over some bytes, with the places of its values.
@@ -401,7 +470,7 @@ fn compared_by_halving(bytes: &[u8], keys: &[u64], key: [u64; 4]) -> usize {
 /// The parts of a file, by the published scan, entry reads and walk, with the map's entries in file
 /// order; and the map's end.
 pub fn published_parts(file: &[u8]) -> Result<(Parts, usize), Refused> {
-    let (flags, l) = answers::scan(file, true, None)?;
+    let answers::File { flags, layout: l, .. } = answers::scan(file, true, None)?;
     let (mut rows, end) = answers::walk(file, l.advice_map_offset)?;
     rows.sort_by_key(|r| r.key_at);
     let entries = (0..l.node_count)

@@ -2,11 +2,13 @@
 mod bases;
 mod battery;
 mod calls;
+mod forms;
 mod input;
 mod kinds;
 mod make;
 mod model;
 mod ours;
+mod padded;
 mod points;
 mod random;
 mod raw;
@@ -24,11 +26,14 @@ use run::Run;
 use slip::{Slip, What};
 
 const ROUNDS: u64 = 200_000;
+/// Rounds of the calls that tell of long counts, alone.
+const COUNT_ROUNDS: u64 = 200_000;
 const SEED: u64 = 1;
 /// Enough for every slip to find its answer.
 const ROUNDS_OF_A_SLIP: u64 = 2_000;
-const USAGE: &str = "usage: beside_rust [ROUNDS] [--seed N] [--slip POINT:WHAT | --slip all]
-  POINT is an entry point's name, WHAT is value, number or place";
+const USAGE: &str =
+    "usage: beside_rust [ROUNDS] [--counts ROUNDS] [--seed N] [--slip POINT:WHAT | --slip all]
+  POINT is an entry point's name, WHAT is value, long, number or place";
 
 enum Task {
     Compare,
@@ -38,16 +43,23 @@ enum Task {
 
 fn main() -> ExitCode {
     quiet_about_expected_panics();
-    let Some((task, rounds, seed)) = arguments() else {
+    let Some(Asked { task, rounds, counts, seed }) = arguments() else {
         eprintln!("{USAGE}");
         return ExitCode::from(2);
     };
     let good = match task {
-        Task::Compare => compared(rounds.unwrap_or(ROUNDS), seed),
+        Task::Compare => compared(rounds.unwrap_or(ROUNDS), counts, seed),
         Task::Slip(slip) => slipped(rounds.unwrap_or(ROUNDS_OF_A_SLIP), seed, slip, false),
         Task::AllSlips => all_slips_seen(rounds.unwrap_or(ROUNDS_OF_A_SLIP), seed),
     };
     if good { ExitCode::SUCCESS } else { ExitCode::FAILURE }
+}
+
+struct Asked {
+    task: Task,
+    rounds: Option<u64>,
+    counts: u64,
+    seed: u64,
 }
 
 /// The published `assert!` on 30 bits is a listed difference; any other panic is told.
@@ -60,17 +72,18 @@ fn quiet_about_expected_panics() {
     }));
 }
 
-fn arguments() -> Option<(Task, Option<u64>, u64)> {
-    let (mut task, mut rounds, mut seed) = (Task::Compare, None, SEED);
+fn arguments() -> Option<Asked> {
+    let mut asked = Asked { task: Task::Compare, rounds: None, counts: COUNT_ROUNDS, seed: SEED };
     let mut words = env::args().skip(1);
     while let Some(word) = words.next() {
         match word.as_str() {
-            "--seed" => seed = words.next()?.parse().ok()?,
-            "--slip" => task = slip_named(&words.next()?)?,
-            _ => rounds = Some(word.parse().ok()?),
+            "--counts" => asked.counts = words.next()?.parse().ok()?,
+            "--seed" => asked.seed = words.next()?.parse().ok()?,
+            "--slip" => asked.task = slip_named(&words.next()?)?,
+            _ => asked.rounds = Some(word.parse().ok()?),
         }
     }
-    Some((task, rounds, seed))
+    Some(asked)
 }
 
 fn slip_named(name: &str) -> Option<Task> {
@@ -83,11 +96,13 @@ fn slip_named(name: &str) -> Option<Task> {
     Some(Task::Slip(Slip::new(point, what)))
 }
 
-/// The whole comparison; true if nothing is unlisted and every listed kind was met.
-fn compared(rounds: u64, seed: u64) -> bool {
+/// The whole comparison; true if nothing is unlisted and all was met that must be.
+fn compared(rounds: u64, counts: u64, seed: u64) -> bool {
     let mut run = Run::new(seed, None, false);
     run.all_short();
+    run.all_forms();
     run.made_up(rounds);
+    run.padded(counts);
     report::whole(&run)
 }
 

@@ -5,11 +5,23 @@ use crate::{
     told::{Entry, Facts, Layout, Parts},
 };
 
+/// Makes a form of a count.
+pub type MakeCount = fn(&mut Rng, u64) -> Vec<u8>;
+
 /// Mostly the shortest form; longer forms are read too.
 pub fn count(rng: &mut Rng, v: u64) -> Vec<u8> {
-    let least = shortest_len(v);
-    let len = if rng.percent(10) { rng.between(least, 9) } else { least };
+    if rng.percent(10) { any_form(rng, v) } else { count_of_len(v, shortest_len(v)) }
+}
+
+/// Any form that holds the number.
+pub fn any_form(rng: &mut Rng, v: u64) -> Vec<u8> {
+    let len = rng.between(shortest_len(v), 9);
     count_of_len(v, len)
+}
+
+/// The shortest form as often as any.
+pub fn half_padded(rng: &mut Rng, v: u64) -> Vec<u8> {
+    if rng.percent(50) { any_form(rng, v) } else { count_of_len(v, shortest_len(v)) }
 }
 
 fn id(rng: &mut Rng, node: usize, nodes: usize) -> u32 {
@@ -160,6 +172,11 @@ pub fn row(rng: &mut Rng) -> [u64; 3] {
 
 /// A map of so many entries, which is mostly accepted.
 pub fn map(rng: &mut Rng, entries: usize) -> Vec<u8> {
+    map_with(rng, entries, count)
+}
+
+/// The same with its counts made so.
+pub fn map_with(rng: &mut Rng, entries: usize, count: MakeCount) -> Vec<u8> {
     let said = if rng.percent(92) { entries } else { rng.wide() };
     let mut out = count(rng, said as u64);
     let wrong_length = if rng.percent(10) { rng.below(entries + 1) } else { entries };
@@ -206,6 +223,11 @@ fn said(rng: &mut Rng, truth: [usize; 4]) -> [usize; 4] {
 
 /// A file that is mostly accepted under these facts.
 pub fn file(rng: &mut Rng, facts: &Facts, most_nodes: usize) -> Vec<u8> {
+    file_with(rng, facts, most_nodes, count)
+}
+
+/// The same with its counts made so.
+pub fn file_with(rng: &mut Rng, facts: &Facts, most_nodes: usize, count: MakeCount) -> Vec<u8> {
     let nodes = rng.between(0, most_nodes);
     let tags = tags(rng, nodes);
     let external = tags.iter().filter(|&&tag| tag == 8).count();
@@ -235,7 +257,7 @@ pub fn file(rng: &mut Rng, facts: &Facts, most_nodes: usize) -> Vec<u8> {
         out.extend(digests(rng, nodes - external));
     }
     let entries = rng.below(5);
-    out.extend(map(rng, entries));
+    out.extend(map_with(rng, entries, count));
     out
 }
 

@@ -1,6 +1,7 @@
 //! Document 01 written down once more, from the paper and its readings, with true numbers (u128)
-//! where the code must watch for overflow. It is asked where the published Rust has no such check,
-//! and whenever the two part: a listed difference counts only if the proved code says what this says.
+//! where the code must watch for overflow; and request 2, long counts. It is asked where the published
+//! Rust has no such check, and whenever the two part: a listed difference counts only if the proved
+//! code says what this says.
 use std::collections::BTreeSet;
 
 use crate::told::*;
@@ -15,8 +16,8 @@ fn need(holds: bool, number: u8, place: usize) -> Told<()> {
 // COUNTS AND ENTRIES
 // ================================================================================================
 
-/// Value, length and the place after it.
-pub fn read_count(bytes: &[u8], at: usize) -> Told<(u64, usize, usize)> {
+/// It is the shortest if its number, written again, gives the very same bytes.
+pub fn read_count(bytes: &[u8], at: usize) -> Told<Count> {
     let rest = bytes.get(at..).unwrap_or_default();
     let Some(&first) = rest.first() else {
         return refuse(SHORT, at);
@@ -27,8 +28,13 @@ pub fn read_count(bytes: &[u8], at: usize) -> Told<(u64, usize, usize)> {
     };
     let number = whole.iter().rev().fold(0u128, |n, &b| n << 8 | b as u128);
     // Of nine bytes the first is no part of the number; of fewer, the low bits tell the length.
-    let value = if len == 9 { number >> 8 } else { number >> len };
-    Ok((value as u64, len, at + len))
+    let value = (if len == 9 { number >> 8 } else { number >> len }) as u64;
+    Ok(Count { value, len, next: at + len, shortest: shortest_form(value) == whole })
+}
+
+/// How many of some counts are long.
+fn long(counts: &[Count]) -> usize {
+    counts.iter().filter(|count| !count.shortest).count()
 }
 
 pub fn shortest_len(v: u64) -> usize {
@@ -39,7 +45,7 @@ pub fn shortest_form(v: u64) -> Vec<u8> {
     count_of_len(v, shortest_len(v))
 }
 
-/// A form of `len` bytes, which must be long enough.
+/// A form of `len` bytes. Of a number that is too large the upper bits are lost.
 pub fn count_of_len(v: u64, len: usize) -> Vec<u8> {
     let number = if len == 9 { (v as u128) << 8 } else { (v as u128) << len | 1 << (len - 1) };
     number.to_le_bytes()[..len].to_vec()
@@ -122,13 +128,13 @@ pub fn flags(bytes: &[u8]) -> Told<u8> {
     Ok(bytes[4])
 }
 
-pub fn scan(bytes: &[u8], f: &Facts, allow: bool, bound: Option<usize>) -> Told<Layout> {
+pub fn scan(bytes: &[u8], f: &Facts, allow: bool, bound: Option<usize>) -> Told<Scanned> {
     need(is_format(f), FORMAT, 0)?;
     scan_unjudged(bytes, f, allow, bound)
 }
 
 /// The scan under facts that may be no format.
-pub fn scan_unjudged(bytes: &[u8], f: &Facts, allow: bool, bound: Option<usize>) -> Told<Layout> {
+pub fn scan_unjudged(bytes: &[u8], f: &Facts, allow: bool, bound: Option<usize>) -> Told<Scanned> {
     let there = |at: usize, len: u128| need(at as u128 + len <= bytes.len() as u128, SHORT, at);
     let within = |count: u128, size: usize, place: usize| {
         need(bound.is_none_or(|n| count <= (n / size) as u128), BUDGET, place)
@@ -142,8 +148,10 @@ pub fn scan_unjudged(bytes: &[u8], f: &Facts, allow: bool, bound: Option<usize>)
     let hashless = bytes[4] & f.hashless != 0;
     need(allow || !hashless, HASHLESS, 4)?;
 
-    let (internal, _, external_count_at) = read_count(bytes, 8)?;
-    let (external, _, roots_count_at) = read_count(bytes, external_count_at)?;
+    let internal_count = read_count(bytes, 8)?;
+    let external_count_at = internal_count.next;
+    let external_count = read_count(bytes, external_count_at)?;
+    let (internal, external) = (internal_count.value, external_count.value);
     let nodes = internal as u128 + external as u128;
     need(nodes <= TOP, OVERFLOW, 8)?;
     need(nodes <= f.max_nodes as u128, TOO_MANY, 8)?;
@@ -153,12 +161,15 @@ pub fn scan_unjudged(bytes: &[u8], f: &Facts, allow: bool, bound: Option<usize>)
         within(internal as u128, 32, 8)?;
     }
 
-    let (roots, _, roots_at) = read_count(bytes, roots_count_at)?;
+    let roots_count_at = external_count.next;
+    let roots_count = read_count(bytes, roots_count_at)?;
+    let (roots, roots_at) = (roots_count.value, roots_count.next);
     within(roots as u128, 4, roots_count_at)?;
     need(4 * roots as u128 <= TOP, OVERFLOW, roots_count_at)?;
     there(roots_at, 4 * roots as u128)?;
     let length_at = roots_at + 4 * roots as usize;
-    let (blocks, _, blocks_at) = read_count(bytes, length_at)?;
+    let length = read_count(bytes, length_at)?;
+    let (blocks, blocks_at) = (length.value, length.next);
     let hashes = if hashless { 0 } else { 32 * internal as u128 };
     let sections = blocks as u128 + 8 * nodes + 32 * external as u128 + hashes;
     need(sections <= TOP, OVERFLOW, length_at)?;
@@ -174,7 +185,7 @@ pub fn scan_unjudged(bytes: &[u8], f: &Facts, allow: bool, bound: Option<usize>)
     }
     need(externals == external, EXTERNALS, external_count_at)?;
     let externals_at = entries_at + 8 * nodes;
-    Ok(Layout {
+    let layout = Layout {
         node_count: nodes,
         internal_node_count: internal as usize,
         external_node_count: external as usize,
@@ -186,7 +197,8 @@ pub fn scan_unjudged(bytes: &[u8], f: &Facts, allow: bool, bound: Option<usize>)
         external_digest_offset: externals_at,
         node_hash_offset: (!hashless).then_some(externals_at + 32 * external as usize),
         advice_map_offset: blocks_at + sections as usize,
-    })
+    };
+    Ok(Scanned { layout, long: long(&[internal_count, external_count, roots_count, length]) })
 }
 
 // BY INDEX
@@ -323,38 +335,42 @@ pub fn strict(bytes: &[u8], l: &Layout) -> Told<()> {
 // THE MAP
 // ================================================================================================
 
-/// The length at a place: how many values, and where they begin. They are whole in the file.
-fn values_at(bytes: &[u8], at: usize) -> Told<(usize, usize)> {
-    let (len, _, values_at) = read_count(bytes, at)?;
-    need(8 * len as u128 <= TOP, OVERFLOW, at)?;
-    need(values_at as u128 + 8 * len as u128 <= bytes.len() as u128, SHORT, values_at)?;
-    Ok((len as usize, values_at))
+/// The length at a place: its number is how many values there are, and the place after it where they
+/// begin. They are whole in the file.
+fn length_at(bytes: &[u8], at: usize) -> Told<Count> {
+    let length = read_count(bytes, at)?;
+    let size = 8 * length.value as u128;
+    need(size <= TOP, OVERFLOW, at)?;
+    need(length.next as u128 + size <= bytes.len() as u128, SHORT, length.next)?;
+    Ok(length)
 }
 
 pub fn walk_map(bytes: &[u8], offset: usize, places: usize) -> Told<Walked> {
-    let (count, _, mut at) = read_count(bytes, offset)?;
+    let count = read_count(bytes, offset)?;
+    let (mut counts, mut at) = (vec![count], count.next);
     let mut keys = BTreeSet::new();
     let mut read: Vec<([u64; 4], u64)> = Vec::new();
-    for i in 0..count {
+    for i in 0..count.value {
         need(i < places as u64, ROOM, at)?;
         need(at + 32 <= bytes.len(), SHORT, at)?;
         let key = word_of(&bytes[at..at + 32]);
         need(key.iter().all(|&e| e < MODULUS), ELEMENT, at)?;
-        let (len, values) = values_at(bytes, at + 32)?;
+        let length = length_at(bytes, at + 32)?;
         need(keys.insert(key), DUPLICATE, at)?;
         read.push((key, at as u64));
-        at = values + 8 * len;
+        counts.push(length);
+        at = length.next + 8 * length.value as usize;
     }
     read.sort();
     let keys = read.into_iter().map(|(_, at)| at).collect();
-    Ok(Walked { keys, end: at, trailing: bytes.len() - at })
+    Ok(Walked { keys, end: at, trailing: bytes.len() - at, long: long(&counts) })
 }
 
 /// An entry has a key of 32 bytes and a count, so of the bytes left each 33 are at most one; the next
 /// is refused by SHORT or by ROOM, and with a place for it by SHORT.
 pub fn places(bytes: &[u8], at: usize) -> usize {
     match read_count(bytes, at) {
-        Ok((entries, _, first)) => (entries as usize).min((bytes.len() - first) / 33 + 1),
+        Ok(count) => (count.value as usize).min((bytes.len() - count.next) / 33 + 1),
         Err(_) => 0,
     }
 }
@@ -376,8 +392,8 @@ pub fn key(bytes: &[u8], keys: &[u64], index: usize) -> Told<[u64; 4]> {
 
 pub fn map_entry(bytes: &[u8], keys: &[u64], index: usize) -> Told<MapEntry> {
     let (at, key) = key_placed(bytes, keys, index)?;
-    let (len, values) = values_at(bytes, at + 32)?;
-    Ok(MapEntry { key, len, values })
+    let length = length_at(bytes, at + 32)?;
+    Ok(MapEntry { key, len: length.value as usize, values: length.next })
 }
 
 pub fn lookup(bytes: &[u8], keys: &[u64], n: usize, key: [u64; 4]) -> Told<Looked> {
@@ -400,9 +416,11 @@ pub fn lookup(bytes: &[u8], keys: &[u64], n: usize, key: [u64; 4]) -> Told<Looke
     Ok(Looked { found: None, compared })
 }
 
-fn read_values(bytes: &[u8], length_at: usize) -> Told<(usize, Vec<u64>)> {
-    let (len, first) = values_at(bytes, length_at)?;
-    let values: Vec<u64> = bytes[first..first + 8 * len].chunks(8).map(le64).collect();
+fn read_values(bytes: &[u8], at: usize) -> Told<(usize, Vec<u64>)> {
+    let length = length_at(bytes, at)?;
+    let first = length.next;
+    let part = &bytes[first..first + 8 * length.value as usize];
+    let values: Vec<u64> = part.chunks(8).map(le64).collect();
     match values.iter().position(|&v| v >= MODULUS) {
         Some(i) => refuse(ELEMENT, first + 8 * i),
         None => Ok((first, values)),

@@ -6,8 +6,8 @@ use vekalumist as proved;
 use crate::{
     raw,
     told::{
-        Entry, Facts, Layout, Looked, MARK, MEMORY, MapEntry, Part, Parts, Refusal, Slots, Told,
-        Walked, le64, refuse,
+        Count, Entry, Facts, Layout, Looked, MARK, MEMORY, MapEntry, Part, Parts, Refusal, Scanned,
+        Slots, Told, Walked, le64, refuse,
     },
 };
 
@@ -126,10 +126,13 @@ fn entry_given(e: Entry) -> proved::Entry {
     }
 }
 
-/// Value, length and the place after it.
-pub fn read_count(bytes: &[u8], at: usize) -> Told<(u64, usize, usize)> {
+fn count_shown(c: proved::Count) -> Count {
+    Count { value: c.value, len: c.len, next: c.next.0, shortest: c.shortest }
+}
+
+pub fn read_count(bytes: &[u8], at: usize) -> Told<Count> {
     let count = told(proved::read_count(bytes, proved::ByteOffset(at)));
-    both(count.map(|count| (count.value, count.len, count.next.0)), raw::read_count(bytes, at))
+    both(count.map(count_shown), raw::read_count(bytes, at))
 }
 
 pub fn shortest_len(v: u64) -> Told<usize> {
@@ -171,11 +174,16 @@ pub fn flags(bytes: &[u8]) -> Told<u8> {
     both(told(proved::flags(bytes)), raw::flags(bytes))
 }
 
-pub fn scan(bytes: &[u8], facts: &Facts, allow: bool, bound: Option<usize>) -> Told<Layout> {
+/// A scanned file of the wrapper has its number of long counts.
+pub fn scan(bytes: &[u8], facts: &Facts, allow: bool, bound: Option<usize>) -> Told<Scanned> {
     let mut options = proved::ScanOptions::new();
     (options.allow_hashless, options.bound) = (allow, bound);
     let forest = told(proved::Forest::scan(bytes, &facts_given(facts), options));
-    both(forest.map(|f| layout_shown(*f.layout())), raw::scan(bytes, facts, allow, bound))
+    let scanned = forest.and_then(|f| match f.long_counts() {
+        Some(long) => Ok(Scanned { layout: layout_shown(*f.layout()), long }),
+        None => refuse(MEMORY, 12),
+    });
+    both(scanned, raw::scan(bytes, facts, allow, bound))
 }
 
 pub fn root(bytes: &[u8], layout: &Layout, index: usize) -> Told<u32> {
@@ -239,18 +247,18 @@ pub fn places(bytes: &[u8], at: usize) -> Told<usize> {
 }
 
 pub fn walk_map(bytes: &[u8], at: usize, places: usize) -> Told<Walked> {
-    let walked = |call: &dyn Fn(&mut [u64]) -> Told<[usize; 3]>| {
+    let walked = |call: &dyn Fn(&mut [u64]) -> Told<[usize; 4]>| {
         let mut keys = vec![MARK; places];
         match call(&mut keys) {
-            Ok([n, end, trailing]) if n <= places && keys[n..].iter().all(|&p| p == MARK) => {
+            Ok([n, end, trailing, long]) if n <= places && keys[n..].iter().all(|&p| p == MARK) => {
                 keys.truncate(n);
-                Ok(Walked { keys, end, trailing })
+                Ok(Walked { keys, end, trailing, long })
             }
             Err(r) if keys.iter().all(|&p| p == 0) => Err(r),
             _ => refuse(MEMORY, 0),
         }
     };
-    let shown = |w: proved::Walked| [w.entries, w.end.0, w.trailing];
+    let shown = |w: proved::Walked| [w.entries, w.end.0, w.trailing, w.long_counts];
     both(
         walked(&|keys| told(proved::walk_map(bytes, proved::ByteOffset(at), keys)).map(shown)),
         walked(&|keys| raw::walk(bytes, at, keys)),
@@ -342,9 +350,9 @@ impl<'a> HeldMap<'a> {
         }
     }
 
-    /// How many, the end, and how many bytes follow.
-    pub fn whole(&self) -> [usize; 3] {
-        [self.map.len(), self.map.end().0, self.map.trailing()]
+    /// How many, the end, how many bytes follow, and how many counts are long.
+    pub fn whole(&self) -> [usize; 4] {
+        [self.map.len(), self.map.end().0, self.map.trailing(), self.map.long_counts()]
     }
 }
 

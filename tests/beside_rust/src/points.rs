@@ -25,6 +25,7 @@ points! {
     EncodeRow "encode_entry, any row",
     Flags "flags",
     Scan "scan",
+    ScanLong "scan, long counts",
     Root "root",
     Entry "entry",
     Children "children",
@@ -37,6 +38,7 @@ points! {
     Slots "slots",
     Places "places",
     Walk "walk_map",
+    WalkLong "walk_map, long counts",
     Key "key",
     MapEntry "map_entry",
     Lookup "lookup",
@@ -55,6 +57,8 @@ impl Point {
         match self {
             Point::ReadCount => &[SHORT],
             Point::ShortestLen | Point::Places | Point::HeldWhole => &[],
+            // of accepted answers alone
+            Point::ScanLong | Point::WalkLong => &[],
             Point::WriteCount => &[ROOM],
             Point::DecodeEntry => &[TAG, PAYLOAD],
             Point::EncodeEntry => &[PAYLOAD],

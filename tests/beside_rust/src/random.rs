@@ -10,7 +10,7 @@ const ROUNDS_PER_LARGE: u64 = 2_000;
 impl Run {
     pub fn made_up(&mut self, rounds: u64) {
         for round in 0..rounds {
-            if round % ROUNDS_PER_FACTS == 0 {
+            if round.is_multiple_of(ROUNDS_PER_FACTS) {
                 let facts = match round / ROUNDS_PER_FACTS % 3 {
                     0 => published::PLACEHOLDER,
                     _ => make::facts(&mut self.rng),
@@ -36,7 +36,7 @@ impl Run {
     }
 
     fn one_round(&mut self, round: u64) {
-        let (facts, most_nodes) = (self.facts, if round % 100 == 0 { 200 } else { 5 });
+        let (facts, most_nodes) = (self.facts, if round.is_multiple_of(100) { 200 } else { 5 });
         let file = make::file(&mut self.rng, &facts, most_nodes);
         self.whole_file(&file);
         let damaged = make::damaged(&mut self.rng, &file);
@@ -50,7 +50,7 @@ impl Run {
 
     /// A map behind a few bytes, whole and damaged, at its place and at others.
     fn made_up_map(&mut self, round: u64) {
-        let entries = if round % 100 == 0 { 300 } else { 6 };
+        let entries = if round.is_multiple_of(100) { 300 } else { 6 };
         let entries = self.rng.below(entries);
         let before = self.rng.below(4);
         let mut bytes = self.rng.bytes(before);
@@ -65,7 +65,7 @@ impl Run {
     /// The writer on keys in any order, with and without doubles.
     fn made_up_keys(&mut self, round: u64) {
         let facts = self.facts;
-        let entries = self.rng.below(if round % 100 == 0 { 300 } else { 9 });
+        let entries = self.rng.below(if round.is_multiple_of(100) { 300 } else { 9 });
         let parts = make::parts_of_keys(&mut self.rng, &facts, entries);
         self.write(&facts, &parts, 64 * entries + 30);
     }

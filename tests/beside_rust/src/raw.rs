@@ -1,5 +1,5 @@
 //! The exported functions as they are (include/vekalumist_raw.h), beside the wrapper's. What may be written is marked before each call: of
-//! the answer and the place one is stored, and the other must still be the mark.
+//! the answer and the place one is stored, and the other must still be the mark, as must the numbers behind both.
 use crate::told::*;
 
 unsafe extern "C" {
@@ -7,7 +7,7 @@ unsafe extern "C" {
         s: *const u8,
         s_len: usize,
         at: usize,
-        count: *mut [u64; 3],
+        count: *mut [u64; 4],
         place: *mut u64,
     ) -> u64;
     fn veka_shortest_len(v: u64) -> u64;
@@ -29,7 +29,7 @@ unsafe extern "C" {
         max_nodes: usize,
         allow: bool,
         bound: *const [u64; 2],
-        layout: *mut [u64; 12],
+        scanned: *mut [u64; 13],
         place: *mut u64,
     ) -> u64;
     fn veka_raw_root(
@@ -97,7 +97,7 @@ unsafe extern "C" {
         at: usize,
         keys: *mut u64,
         keys_len: usize,
-        walked: *mut [u64; 3],
+        walked: *mut [u64; 4],
         place: *mut u64,
     ) -> u64;
     fn veka_raw_key(
@@ -188,18 +188,34 @@ impl<const N: usize> Row for [u64; N] {
     const MARKED: Self = [MARK; N];
 }
 
-fn told<R: Row>(call: impl FnOnce(&mut R, &mut u64) -> u64) -> Told<R> {
-    let (mut row, mut place) = (R::MARKED, MARK);
-    match call(&mut row, &mut place) {
-        0 if place == MARK => Ok(row),
-        number @ 1..=255 if row == R::MARKED => refuse(number as u8, place as usize),
+/// Memory lent for an answer, and some behind it that is not.
+#[derive(Clone, Copy)]
+#[repr(C)]
+struct Lent<R> {
+    row: R,
+    behind: [u8; 32],
+}
+
+impl<R: Row> Lent<R> {
+    const MARKED: Self = Self { row: R::MARKED, behind: [MARK as u8; 32] };
+}
+
+fn told<R: Row>(call: impl FnOnce(*mut R, *mut u64) -> u64) -> Told<R> {
+    let (mut row, mut place) = (Lent::<R>::MARKED, Lent::<u64>::MARKED);
+    let number = call((&raw mut row).cast(), (&raw mut place).cast());
+    let kept = row.behind == Lent::<R>::MARKED.behind && place.behind == Lent::<u64>::MARKED.behind;
+    match number {
+        0 if kept && place.row == MARK => Ok(row.row),
+        number @ 1..=255 if kept && row.row == R::MARKED => {
+            refuse(number as u8, place.row as usize)
+        }
         _ => refuse(MEMORY, 0),
     }
 }
 
 /// The same of a call that answers nothing but that it holds.
-fn held(call: impl FnOnce(&mut u64) -> u64) -> Told<()> {
-    told(|_: &mut u8, place| call(place)).map(|_| ())
+fn held(call: impl FnOnce(*mut u64) -> u64) -> Told<()> {
+    told(|_: *mut u8, place| call(place)).map(|_| ())
 }
 
 fn marks(f: &Facts) -> [u8; 9] {
@@ -278,10 +294,16 @@ fn entry_of([kind, first, second]: [u64; 3]) -> Told<Entry> {
 // SAFETY, of each call: pointer and length are of one slice that is borrowed for the call, mutably where
 // the function writes; every other pointer is of one value that is borrowed likewise.
 
-pub fn read_count(s: &[u8], at: usize) -> Told<(u64, usize, usize)> {
-    let [value, len, next] =
+/// Whether it is the shortest is said by 1 and 0 alone.
+pub fn read_count(s: &[u8], at: usize) -> Told<Count> {
+    let [value, len, next, shortest] =
         told(|row, place| unsafe { veka_raw_read_count(s.as_ptr(), s.len(), at, row, place) })?;
-    Ok((value, len as usize, next as usize))
+    let shortest = match shortest {
+        0 => false,
+        1 => true,
+        _ => return refuse(MEMORY, 3),
+    };
+    Ok(Count { value, len: len as usize, next: next as usize, shortest })
 }
 
 pub fn shortest_len(v: u64) -> usize {
@@ -307,11 +329,12 @@ pub fn flags(s: &[u8]) -> Told<u8> {
     told(|row, place| unsafe { veka_raw_flags(s.as_ptr(), s.len(), row, place) })
 }
 
-pub fn scan(s: &[u8], f: &Facts, allow: bool, bound: Option<usize>) -> Told<Layout> {
+pub fn scan(s: &[u8], f: &Facts, allow: bool, bound: Option<usize>) -> Told<Scanned> {
     let (marks, bound) = (marks(f), bound_row(bound));
-    layout_of(told(|row, place| unsafe {
+    let [layout @ .., long] = told(|row, place| unsafe {
         veka_raw_scan(s.as_ptr(), s.len(), &marks, f.max_nodes, allow, &bound, row, place)
-    })?)
+    })?;
+    Ok(Scanned { layout: layout_of(layout)?, long: long as usize })
 }
 
 pub fn root(s: &[u8], l: &Layout, index: usize) -> Told<u32> {
@@ -378,9 +401,9 @@ pub fn places(s: &[u8], at: usize) -> usize {
     unsafe { veka_raw_places(s.as_ptr(), s.len(), at) as usize }
 }
 
-/// How many, the end, and how many bytes follow.
-pub fn walk(s: &[u8], at: usize, keys: &mut [u64]) -> Told<[usize; 3]> {
-    let walked: [u64; 3] = told(|row, place| unsafe {
+/// How many, the end, how many bytes follow, and how many counts are long.
+pub fn walk(s: &[u8], at: usize, keys: &mut [u64]) -> Told<[usize; 4]> {
+    let walked: [u64; 4] = told(|row, place| unsafe {
         veka_raw_walk(s.as_ptr(), s.len(), at, keys.as_mut_ptr(), keys.len(), row, place)
     })?;
     Ok(walked.map(|n| n as usize))

@@ -6,14 +6,16 @@ use crate::{
     told::NAMES,
 };
 
-/// Prints the tables; true if nothing is unlisted and every listed kind was met.
+/// Prints the tables; true if nothing is unlisted, and every answer, form of a count and listed kind was
+/// met.
 pub fn whole(run: &Run) -> bool {
     by_entry_point(run);
     let all_given = answers(run);
+    let all_forms = run.forms.all_met();
     let all_met = differences(run);
     println!();
     println!("differences on no list: {}", run.unlisted);
-    run.unlisted == 0 && all_given && all_met
+    run.unlisted == 0 && all_given && all_forms && all_met
 }
 
 fn tallies(run: &Run) -> impl Iterator<Item = (&Point, &Tally)> {

@@ -4,6 +4,7 @@ use std::fmt::Debug;
 use published::answers::Refused;
 
 use crate::{
+    forms::Forms,
     input::Input,
     kinds::{Answers, KINDS},
     points::Point,
@@ -35,6 +36,7 @@ pub struct Run {
     pub facts: Facts,
     pub tally: Vec<Tally>,
     pub seen: Vec<Seen>,
+    pub forms: Forms,
     pub unlisted: u64,
     pub slip: Option<Slip>,
     quiet: bool,
@@ -50,6 +52,7 @@ impl Run {
             facts: published::PLACEHOLDER,
             tally: vec![Tally::default(); Point::ALL.len()],
             seen: vec![Seen::default(); KINDS.len()],
+            forms: Forms::default(),
             unlisted: 0,
             slip,
             quiet,

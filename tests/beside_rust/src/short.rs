@@ -248,7 +248,7 @@ fn put_at(file: &[u8], at: usize, string: &[u8]) -> [Vec<u8>; 3] {
 /// Where the parts of an accepted file begin.
 fn boundaries(run: &mut Run, file: &[u8]) -> Vec<usize> {
     let l = run.scan(file, true, None).expect("a good file");
-    let next = |at: usize| crate::model::read_count(file, at).expect("a good file").2;
+    let next = |at: usize| crate::model::read_count(file, at).expect("a good file").next;
     let (external, roots) = (next(8), next(next(8)));
     let length = l.roots_offset + 4 * l.roots_count;
     let mut all = vec![0, 4, 5, 8, external, roots, l.roots_offset, length, l.basic_block_offset];

@@ -72,6 +72,22 @@ pub fn refuse<T>(number: u8, place: usize) -> Told<T> {
     Err(Refusal { number, place })
 }
 
+/// A count that was read: its number, its bytes, the place after it, and whether no form has fewer bytes.
+#[derive(Debug, Clone, Copy, PartialEq, Eq)]
+pub struct Count {
+    pub value: u64,
+    pub len: usize,
+    pub next: usize,
+    pub shortest: bool,
+}
+
+/// An accepted file's layout, and how many of its four counts are long.
+#[derive(Debug, Clone, Copy, PartialEq, Eq)]
+pub struct Scanned {
+    pub layout: Layout,
+    pub long: usize,
+}
+
 /// A slot table that was filled, and what is left of the bound.
 #[derive(Debug, Clone, PartialEq, Eq)]
 pub struct Slots {
@@ -79,12 +95,14 @@ pub struct Slots {
     pub left: Option<usize>,
 }
 
-/// The key offsets of a walked map, keys rising, its end, and how many bytes follow it.
+/// The key offsets of a walked map, keys rising, its end, how many bytes follow it, and how many of its
+/// counts are long.
 #[derive(Debug, Clone, PartialEq, Eq)]
 pub struct Walked {
     pub keys: Vec<u64>,
     pub end: usize,
     pub trailing: usize,
+    pub long: usize,
 }
 
 /// An entry of a map: its key, how many values it has, and where they begin.

@@ -21,9 +21,11 @@ pub static COMMANDS: [Command; 6] = [
         name: "layout",
         operand: "",
         text: "Where the sections lie, in seven lines: nodes, roots, block data, node\n\
-               entries, external digests, node hashes and the advice map with its end. A\n\
-               refused file gives the line `refused NUMBER at PLACE`. With --json every\n\
-               field of the layout, the flags, and how many bytes follow the map.",
+               entries, external digests, node hashes and the advice map with its end; in\n\
+               an eighth how many counts are long, which have more bytes than they need:\n\
+               of all, of the four that the scan reads, and of the map's. A refused file\n\
+               gives the line `refused NUMBER at PLACE`. With --json every field of the\n\
+               layout, the flags, how many bytes follow the map, and the long counts.",
         run: layout::run,
     },
     Command {

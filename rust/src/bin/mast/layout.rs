@@ -1,4 +1,4 @@
-//! `mast layout`: the page that the small program prints, and in JSON every field of the layout.
+//! `mast layout`: the page that the small program prints and how many counts are long, and in JSON every field of the layout.
 
 use std::io::{self, Write};
 
@@ -12,7 +12,11 @@ pub fn run(run: &Run, bytes: &[u8], tell: &mut Tell<'_>) -> Result<(), Stop> {
     let mut keys = Vec::new();
     match scanned_and_walked(run, bytes, &mut keys) {
         Ok((forest, map)) if tell.json => fields(&forest, &map, tell),
-        Ok((forest, map)) => Ok(page(&forest, &map, tell.out)?),
+        Ok((forest, map)) => {
+            page(&forest, &map, tell.out)?;
+            let [all, scan, map] = long_counts(&forest, &map);
+            Ok(writeln!(tell.out, "long counts {all} scan {scan} map {map}")?)
+        }
         Err(Stop::Refused(refusal)) if !tell.json => {
             writeln!(tell.out, "refused {} at {}", refusal.kind.number(), refusal.place.number())?;
             Err(Stop::Refused(refusal))
@@ -26,6 +30,12 @@ fn scanned_and_walked<'a, 'k>(run: &Run, bytes: &'a [u8], keys: &'k mut Vec<u64>
     *keys = table(forest.key_places())?;
     let map = forest.advice(keys)?;
     Ok((forest, map))
+}
+
+/// How many counts are long: of all, of those that the scan reads, and of the map's.
+fn long_counts(forest: &Forest<'_>, map: &AdviceMap<'_, '_>) -> [usize; 3] {
+    let scan = forest.long_counts().unwrap_or(0); // a scan made it, so it has the number
+    [scan + map.long_counts(), scan, map.long_counts()]
 }
 
 fn page(forest: &Forest<'_>, map: &AdviceMap<'_, '_>, out: &mut dyn Write) -> io::Result<()> {
@@ -44,6 +54,7 @@ fn page(forest: &Forest<'_>, map: &AdviceMap<'_, '_>, out: &mut dyn Write) -> io
 
 fn fields(forest: &Forest<'_>, map: &AdviceMap<'_, '_>, tell: &mut Tell<'_>) -> Result<(), Stop> {
     let at = forest.layout();
+    let [all_long, scan_long, map_long] = long_counts(forest, map);
     Ok(tell.record(&[
         ("bytes", "", Number(forest.bytes().len())),
         ("flags", "", Number(forest.flags()?.into())),
@@ -61,5 +72,8 @@ fn fields(forest: &Forest<'_>, map: &AdviceMap<'_, '_>, tell: &mut Tell<'_>) -> 
         ("advice_map_entries", "", Number(map.len())),
         ("advice_map_end", "", Number(map.end().0)),
         ("trailing", "", Number(map.trailing())),
+        ("long_counts", "", Number(all_long)),
+        ("scan_long_counts", "", Number(scan_long)),
+        ("advice_map_long_counts", "", Number(map_long)),
     ])?)
 }

@@ -17,7 +17,7 @@ use Rattle.advice.proofs.walk.walk_entries.Tie as tie
 -- what `fill` left
 filled : (c : tie.After-fill) →
     let a = c .before .before .before .before .args in
-    FilledTo (now (a .s)) (a .at .0) (a .n) (now (a .keys)) (c .fill .last .1 .1 .1 .0) (c .fill .result)
+    FilledTo (now (a .s)) (a .at .0) (a .count) (now (a .keys)) (c .fill .last .1 .1 .1 .0) (c .fill .result)
 filled c = c .fill .ensures
 
 -- settled, the table is as long as it was
@@ -35,7 +35,7 @@ first-told : (c : tie.After-settle) →
 first-told c =
     let f = c .before .before .before .before in
     let a = f .before .before .before .before .args in
-    c .settle .ensures .0 ∙ duplicate-found (now (a .s)) _ (filled-ascends (now (a .s)) (a .at .0) (a .n) (now (a .keys)) _ _ (filled f))
+    c .settle .ensures .0 ∙ duplicate-found (now (a .s)) _ (filled-ascends (now (a .s)) (a .at .0) (a .count) (now (a .keys)) _ _ (filled f))
 
 repeat : tie.Need-returns
 repeat c =
@@ -44,8 +44,8 @@ repeat c =
     let f = d .before .before .before .before in
     let a = f .before .before .before .before .args in
     let s = now (a .s) in
-    let e = repeat-told s (a .at .0) (a .n) (now (a .keys)) _ _ (filled f) (d .settle .result) (first-told d) _ (x .x .given .1) in
-    (e, c .before .before .clear .ensures ∙ ap (λ (m : ℕ). replicate m 0) (long d) ∙ sym (table-refused s (a .at .0) (a .n) (now (a .keys)) _ _ e))
+    let e = repeat-told s (a .at .0) (a .count) (now (a .keys)) _ _ (filled f) (d .settle .result) (first-told d) _ (x .x .given .1) in
+    (e, c .before .before .clear .ensures ∙ ap (λ (m : ℕ). replicate m 0) (long d) ∙ sym (table-refused s (a .at .0) (a .count) (now (a .keys)) _ _ e))
 
 stop : tie.Need-returns-2
 stop c =
@@ -54,8 +54,8 @@ stop c =
     let f = d .before .before .before .before in
     let a = f .before .before .before .before .args in
     let s = now (a .s) in
-    let e = stop-told s (a .at .0) (a .n) (now (a .keys)) _ _ (filled f) (d .settle .result) (first-told d) _ (o .before .before .enum-told .given .1) (o .stop .given .1) in
-    (e, c .before .before .clear2 .ensures ∙ ap (λ (m : ℕ). replicate m 0) (long d) ∙ sym (table-refused s (a .at .0) (a .n) (now (a .keys)) _ _ e))
+    let e = stop-told s (a .at .0) (a .count) (now (a .keys)) _ _ (filled f) (d .settle .result) (first-told d) _ (o .before .before .enum-told .given .1) (o .stop .given .1) in
+    (e, c .before .before .clear2 .ensures ∙ ap (λ (m : ℕ). replicate m 0) (long d) ∙ sym (table-refused s (a .at .0) (a .count) (now (a .keys)) _ _ e))
 
 end : tie.Need-returns-3
 end c =
@@ -64,8 +64,8 @@ end c =
     let f = d .before .before .before .before in
     let a = f .before .before .before .before .args in
     let s = now (a .s) in
-    let e = stop-told s (a .at .0) (a .n) (now (a .keys)) _ _ (filled f) (d .settle .result) (first-told d) _ (o .before .before .enum-told .given .1) (o .stop2 .given .1) in
-    (e, table-told s (a .at .0) (a .n) (now (a .keys)) _ _ (filled f) (d .settle .result) (first-told d) _ e _ (d .settle .ensures .1))
+    let e = stop-told s (a .at .0) (a .count) (now (a .keys)) _ _ (filled f) (d .settle .result) (first-told d) _ (o .before .before .enum-told .given .1) (o .stop2 .given .1) in
+    (e, table-told s (a .at .0) (a .count) (now (a .keys)) _ _ (filled f) (d .settle .result) (first-told d) _ _ e _ (d .settle .ensures .1))
 
 pub walk-entries-spec : {M : Type 1} → statement M
 walk-entries-spec =
@@ -73,7 +73,7 @@ walk-entries-spec =
     (tie.spec
     (λ c κs. search needs)
     (λ c. search needs)
-    (λ c. let f = c .before .before .before in let a = f .before .before .before .before .args in filled-long (now (a .s)) (a .at .0) (a .n) (now (a .keys)) _ _ (filled f))
+    (λ c. let f = c .before .before .before in let a = f .before .before .before .before .args in filled-long (now (a .s)) (a .at .0) (a .count) (now (a .keys)) _ _ (filled f))
     (λ c κs. search needs)
     (λ c. search needs)
     (λ c κs. search needs)

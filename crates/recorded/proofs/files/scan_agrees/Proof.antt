@@ -27,7 +27,7 @@ returns c e =
     let d = c .before .before .before .before .before .before .before .before .before .before .number2 in
     let o = scanCall s (marksGiven a) (getD a 9 0) (not (eqb (getD a 10 0) 0)) (getD a 11 0 ∷ getD a 12 0 ∷ []) in
     let same : scanCall s (m .result) (x .result) (not (eqb (y .result) 0)) (b .result ∷ d .result ∷ []) ≡ o = rw (m .ensures, x .ensures, y .ensures, b .ensures, d .ensures) in
-    row-told itself (take 12 blank) o same (v .0) (c .before .twelve .ensures ∙ v .1 .0) (v .1 .1) refl (c .is-told .ensures e)
+    row-told itself (take 13 blank) o same (v .0) (c .before .thirteen .ensures ∙ v .1 .0) (v .1 .1) refl (c .is-told .ensures e)
 
 pub scan-agrees-spec : {M : Type 1} → statement M
 scan-agrees-spec =

@@ -24,7 +24,7 @@ returns c e =
     let o = walkCall (length keys) s (getD a 0 0) in
     let same : walkCall (length keys) s (x .result) ≡ o = rw (x .ensures) in
     let left = v .1 .1 .1 ∙ ap (λ (n : ℕ). keyTable s n keys) (x .ensures) in
-    row-told itself (take 3 blank) o same (v .0) (c .before .before .three .ensures ∙ v .1 .0) (v .1 .1 .0) left (c .is-told .ensures e)
+    row-told itself (take 4 blank) o same (v .0) (c .before .before .four .ensures ∙ v .1 .0) (v .1 .1 .0) left (c .is-told .ensures e)
 
 pub walk-agrees-spec : {M : Type 1} → statement M
 walk-agrees-spec =

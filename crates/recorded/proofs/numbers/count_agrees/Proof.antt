@@ -20,7 +20,7 @@ returns c e =
     let x = c .before .before .before .before .before .before .number in
     let o = countCall s (getD a 0 0) in
     let same : countCall s (x .result) ≡ o = rw (x .ensures) in
-    row-told itself (take 3 blank) o same (v .0) (c .before .three .ensures ∙ v .1 .0) (v .1 .1) refl (c .is-told .ensures e)
+    row-told itself (take 4 blank) o same (v .0) (c .before .four .ensures ∙ v .1 .0) (v .1 .1) refl (c .is-told .ensures e)
 
 pub count-agrees-spec : {M : Type 1} → statement M
 count-agrees-spec =

@@ -1,7 +1,7 @@
 -- `vekalumist::files::veka_raw_scan` meets its contract: each arm is a case of the outcome. Assumes nothing.
 use mathlib.Core.Path.{sym, ap, _∙_}
 use borrow.Author.Needs.{needs}
-use Rattle.crossing.specs.Arrays.{layoutRow}
+use Rattle.crossing.specs.Arrays.{scannedRow}
 use Rattle.layout.specs.Shown.{shownScan}
 use Rattle.vekalumist.proofs.Told.{accepts, refuses}
 use Rattle.vekalumist.specs.Answers.{laid}
@@ -24,9 +24,9 @@ veka-raw-scan-spec =
     let k = c .before .before .before .before .before in
     let q = k .before in
     let y = q .before in
-    refuses _ _ (ap (laid layoutRow) (sym (rw (y .facts-of .ensures, q .bound-of .ensures) at (k .scan-layout .ensures .0)) ∙ ap shownScan (c .before .before .before .why .given .1))) (c .refuse .ensures .0) (c .refuse .ensures .1))
+    refuses _ _ (ap (laid scannedRow) (sym (rw (y .facts-of .ensures, q .bound-of .ensures) at (k .scan-layout .ensures .0)) ∙ ap shownScan (c .before .before .before .why .given .1))) (c .refuse .ensures .0) (c .refuse .ensures .1))
     (λ c.
     let k = c .before .before .before .before in
     let q = k .before in
     let y = q .before in
-    accepts _ _ (ap (laid layoutRow) (sym (rw (y .facts-of .ensures, q .bound-of .ensures) at (k .scan-layout .ensures .0)) ∙ ap shownScan (c .before .before .l .given .1)) ∙ ap accepted (sym (c .layout-row .ensures)))))
+    accepts _ _ (ap (laid scannedRow) (sym (rw (y .facts-of .ensures, q .bound-of .ensures) at (k .scan-layout .ensures .0)) ∙ ap shownScan (c .before .before .l .given .1)) ∙ ap accepted (sym (c .scanned-row .ensures)))))

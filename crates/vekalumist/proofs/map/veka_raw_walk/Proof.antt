@@ -29,4 +29,4 @@ veka-raw-walk-spec =
     (λ c.
     let k = c .before .before .before .before .before .before .before in
     let q = k .before .before .before .before in
-    beside _ _ _ (accepts _ _ (ap (laid (walkedRow (now (q .args .s)))) (sym (k .walk-map .ensures .0) ∙ ap shownWalk (c .before .before .before .n .given .1)) ∙ ap (λ (t : ℕ). accepted (c .before .before .before .n .given .0 .0 ∷ c .before .before .before .n .given .0 .1 .0 .at .0 ∷ t ∷ [])) (sym (c .before .bytes-after .ensures)))) (k .walk-map .ensures .1)))
+    beside _ _ _ (accepts _ _ (ap (laid (walkedRow (now (q .args .s)))) (sym (k .walk-map .ensures .0) ∙ ap shownWalk (c .before .before .before .n .given .1)) ∙ ap (λ (t : ℕ). accepted (c .before .before .before .n .given .0 .0 ∷ c .before .before .before .n .given .0 .1 .0 .at .0 ∷ t ∷ c .before .before .before .n .given .0 .1 .1 .0 ∷ [])) (sym (c .before .bytes-after .ensures)))) (k .walk-map .ensures .1)))

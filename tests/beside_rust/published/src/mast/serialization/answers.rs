@@ -23,6 +23,14 @@ pub struct Refused {
     pub building_table: bool,
 }
 
+/// An accepted file: its flags byte, its layout, and where its four counts began.
+#[derive(Debug, Clone, Copy, PartialEq, Eq)]
+pub struct File {
+    pub flags: u8,
+    pub layout: Layout,
+    pub counts: [usize; 4],
+}
+
 /// One entry of a walked map.
 #[derive(Debug, Clone, Copy, PartialEq, Eq)]
 pub struct Row {
@@ -101,20 +109,24 @@ pub fn encode(entry: MastNodeEntry) -> Option<u64> {
     panic::catch_unwind(|| direct::encode(entry)).ok()
 }
 
-/// The flags byte and the layout.
-pub fn scan(
-    bytes: &[u8],
-    allow_hashless: bool,
-    bound: Option<usize>,
-) -> Result<(u8, Layout), Refused> {
+pub fn scan(bytes: &[u8], allow_hashless: bool, bound: Option<usize>) -> Result<File, Refused> {
     trace::reset();
     match direct::scan_at(bytes, allow_hashless, bound) {
-        Ok((flags, scanned)) => Ok((flags, scanned.fields())),
+        Ok((flags, scanned)) => {
+            Ok(File { flags, layout: scanned.fields(), counts: counts_read(bytes) })
+        }
         Err((e, stood_at)) => {
             let place = scan_place(&e, stood_at, bytes);
             Err(refused(e, place))
         }
     }
+}
+
+/// Where the counts of the scan just done began.
+fn counts_read(bytes: &[u8]) -> [usize; 4] {
+    let began: Vec<usize> =
+        trace::noted(|t| t.counts.iter().map(|a| a - bytes.as_ptr() as usize).collect());
+    began.try_into().expect("an accepted scan reads four counts")
 }
 
 fn scan_place(e: &Error, stood_at: usize, bytes: &[u8]) -> Option<usize> {
