@@ -13,12 +13,10 @@ BEGIN, END = "<!-- samples: written by samples/make.py -->\n", "<!-- /samples --
 MAGIC, VERSION, HASHLESS = b"MAST", bytes([0, 0, 2]), 2
 
 
-def count(v):
-    """v in its shortest form."""
-    for n in range(1, 9):
-        if v < 1 << 7 * n:
-            return ((2 * v + 1) << (n - 1)).to_bytes(n, "little")
-    return b"\0" + v.to_bytes(8, "little")
+def count(v, more=0):
+    """v in its shortest form, or in so many bytes more, up to nine."""
+    n = more + next((n for n in range(1, 9) if v < 1 << 7 * n), 9)
+    return ((2 * v + 1) << (n - 1)).to_bytes(n, "little") if n < 9 else b"\0" + v.to_bytes(8, "little")
 
 
 def join(a, b):
@@ -32,15 +30,15 @@ def block(offset):
 DYN, EXTERNAL = 6 << 60, 8 << 60
 
 
-def forest(flags, entries, roots, blocks, advice=(), digests=None):
+def forest(flags, entries, roots, blocks, advice=(), digests=None, more=0):
     """A file of entry words, digests (of the external nodes and then of the others; zero if not given), and advice entries (key of four numbers,
-    values); and its page."""
+    values), each count so many bytes longer than it need be; and its page."""
     external = sum(w == EXTERNAL for w in entries)
     internal = len(entries) - external
     digests = digests or bytes(32 * len(entries))
-    out = MAGIC + bytes([flags]) + VERSION + count(internal) + count(external) + count(len(roots))
+    out = MAGIC + bytes([flags]) + VERSION + count(internal, more) + count(external, more) + count(len(roots), more)
     page = f"nodes {len(entries)} internal {internal} external {external}\nroots {len(roots)} at {len(out)}\n"
-    out += b"".join(struct.pack("<I", r) for r in roots) + count(len(blocks))
+    out += b"".join(struct.pack("<I", r) for r in roots) + count(len(blocks), more)
     page += f"blocks {len(blocks)} at {len(out)}\n"
     out += blocks
     page += f"entries at {len(out)}\n"
@@ -50,9 +48,9 @@ def forest(flags, entries, roots, blocks, advice=(), digests=None):
     page += "node hashes none\n" if flags & HASHLESS else f"node hashes at {len(out)}\n"
     out += b"" if flags & HASHLESS else digests[32 * external :]
     page += f"advice at {len(out)} "
-    out += count(len(advice))
+    out += count(len(advice), more)
     for key, values in advice:
-        out += struct.pack("<4Q", *key) + count(len(values)) + struct.pack(f"<{len(values)}Q", *values)
+        out += struct.pack("<4Q", *key) + count(len(values), more) + struct.pack(f"<{len(values)}Q", *values)
     return out, page + f"end {len(out)}"
 
 
@@ -61,6 +59,7 @@ def refused(number, place):
 
 
 P10 = [EXTERNAL, block(0), join(0, 1)]
+ADVICE = [((1, 0, 0, 0), [7, 8, 9]), ((0, 2, 0, 0), [])]
 LINKED, RISING = [EXTERNAL, EXTERNAL, block(0), join(0, 2)], bytes(range(128))
 hashless, hashless_page = forest(HASHLESS, P10, [2], b"\xab")
 hashes, hashes_page = forest(0, P10, [2], b"\xab")
@@ -70,7 +69,8 @@ twice, _ = forest(HASHLESS, P10, [2], b"\xab", [((1, 0, 0, 0), []), ((1, 0, 0, 0
 FILES = {
     "p10.mast": ("P10 of the paper, which is hashless", hashless, hashless_page),
     "p10-hashes.mast": ("P10 with hashes", hashes, hashes_page),
-    "advice.mast": ("with hashes, and a map of two entries", *forest(0, P10, [2], b"\xab", [((1, 0, 0, 0), [7, 8, 9]), ((0, 2, 0, 0), [])])),
+    "advice.mast": ("with hashes, and a map of two entries", *forest(0, P10, [2], b"\xab", ADVICE)),
+    "long.mast": ("the same, each of its seven counts a byte too long", *forest(0, P10, [2], b"\xab", ADVICE, more=1)),
     "empty.mast": ("no node, no root, an empty map", *forest(0, [], [], b"")),
     "digests.mast": ("two external nodes and two others, with digests of rising bytes", *forest(0, LINKED, [3], b"\xab", digests=RISING)),
     "short.mast": ("three bytes of wrong magic", b"XXX", refused(1, 0)),
