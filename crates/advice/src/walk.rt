@@ -5,14 +5,15 @@ use wire::count::Count;
 use wire::count::CountRead;
 use wire::count::long_one;
 use wire::count::read_count;
-use wire::number::is_short;
 use wire::refusal::Refusal;
 use wire::units::ByteOffset;
 use wire::units::Cursor;
 use wire::word::WordCheck;
 use wire::word::check_word;
 ghost use mathlib.Core.Path.{_≡_};
+ghost use Prim.Native.Nat.{_*_};
 ghost use lib.ListN.{length, replicate};
+ghost use Rattle.wire.specs.Le.{isShort};
 ghost use Rattle.advice.specs.Walk.{walkOutcome, keyTable};
 ghost use Rattle.advice.specs.Inner.{lengthOutcome, valuesOutcome, shownValues, lengthEndOutcome, entryEndOutcome, shownEntryEnd, entriesOutcome, entriesTable, FilledTo};
 ghost use Rattle.advice.specs.Shown.{shownWalk};
@@ -50,6 +51,17 @@ struct Filled {
     stop: Stop,
 }
 
+// Whether so many values at a place are not all there. What is left is divided by 8, so that the place
+// after them waits for no product.
+fn values_short(s: &[u8], from: ByteOffset, len: usize) -> bool
+    ensures { λ r. ⌜ r ≡ isShort (now (s .entry)) (from .0) (8 * len) ⌝ }
+{
+    if s.len() < from.0 {
+        return true;
+    }
+    (s.len() - from.0) / 8 < len
+}
+
 // The values of a length that was read at a place, which start at `from`; they are not judged.
 fn values_from(s: &[u8], at: ByteOffset, length: Count, from: ByteOffset) -> ValuesRead
     ensures { λ r. ⌜ shownValues r ≡ lengthOutcome (now (s .entry)) (at .0) (record { value = length; next = from .0 }) ⌝ }
@@ -58,7 +70,7 @@ fn values_from(s: &[u8], at: ByteOffset, length: Count, from: ByteOffset) -> Val
     if LENGTH_MAX < len {
         return ValuesRead::Refused(Refusal::Overflow, at);
     }
-    if is_short(s, from, 8 * len) {
+    if values_short(s, from, len) {
         return ValuesRead::Refused(Refusal::Short, from);
     }
     ValuesRead::Whole(from, len)

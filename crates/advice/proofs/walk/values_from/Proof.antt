@@ -13,12 +13,12 @@ over c = let a = c .before .before .args in length-over (a .s .now) (a .at .0) (
 short : tie.Need-returns-2
 short c =
     let a = c .before .before .before .before .args in
-    length-short (a .s .now) (a .at .0) (a .length) (a .from .0) (omega arith) (sym (c .before .is-short .ensures) ∙ c .if2 .taken)
+    length-short (a .s .now) (a .at .0) (a .length) (a .from .0) (omega arith) (sym (c .before .values-short .ensures) ∙ c .if2 .taken)
 
 whole : tie.Need-returns-3
 whole c =
     let a = c .before .before .before .before .args in
-    length-whole (a .s .now) (a .at .0) (a .length) (a .from .0) (omega arith) (sym (c .before .is-short .ensures) ∙ c .if2 .left)
+    length-whole (a .s .now) (a .at .0) (a .length) (a .from .0) (omega arith) (sym (c .before .values-short .ensures) ∙ c .if2 .left)
 
 pub values-from-spec : {M : Type 1} → statement M
-values-from-spec = tie.close (tie.spec over (λ c. search needs) (λ c κs. search needs) short whole)
+values-from-spec = tie.close (tie.spec over (λ c κs. search needs) short whole)
