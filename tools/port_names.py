@@ -6,7 +6,8 @@
 A name of specs/ or proofs/ in lower camel case becomes snake case, as `firstMet` first_met; one that gives a type becomes upper camel case, as
 `noneMet` NoneMet. Between words a dash becomes `_`, as in `read_is_form`; it stays where it joins the names of two functions, as in `length-rows`.
 A lemma that would then have a function's name gets `_lem`. The proof of a function f is f_spec. What the check makes of the source (after `c.` or
-`tie.`), functions of src/, exported names, strings and files keep their names. Pages are respelled inside backticks alone.
+`tie.`), functions and variables of src/, exported names, names in capitals (as NO-HASH, a refusal's), strings and files keep their names. Pages
+are respelled inside backticks alone, and so is a name with dashes in a comment, but where a comment lists names, one a line.
 """
 import collections
 import glob
@@ -44,8 +45,8 @@ def spelled(name, functions):
     parts = name.split("-")
     if parts[-1] == "spec":
         return "_".join(parts)
-    if len(parts) > 1 and all(p.upper() == p for p in parts) and name[0].isupper():
-        return "_".join(parts)
+    if name.upper() == name:
+        return name
     out = snake(parts[0])
     for i, right in enumerate(parts[1:]):
         joins = i == 0 and snake(parts[0]) in HEADS and (right in functions or snake(right) in functions)
@@ -125,10 +126,23 @@ def clashes(new, declared):
                 yield old, other, to
 
 
+def plain(text, at):
+    """Whether the place is in a comment's own words: not in backticks, and not in a list of names at the comment's left."""
+    start = text.rfind("\n", 0, at) + 1
+    line = text[start:text.find("\n", at) if "\n" in text[at:] else len(text)]
+    mark = re.search(r"--(?= |$)|//|^#|^says:", line)
+    if not mark or mark.start() > at - start:
+        return False
+    before = line[mark.end():at - start]
+    return before.count("`") % 2 == 0 and not re.match(r"\s{3,}(?:[\w'-]+, )*$", before)
+
+
 def respelled(text, new, aliases):
     """The text in the new spelling. After a dot a name with dashes is the check's, but behind the name of one of the repository's own modules."""
     def one(m):
         name, at = m.group(0), m.start()
+        if "-" in name and plain(text, at):
+            return name
         if at and text[at - 1] == "." and "-" in name:
             head = re.search(r"([^\W\d][\w'₀-₉-]*)\.$", text[max(0, at - 80):at])
             if not head or head.group(1) not in aliases:
@@ -157,11 +171,14 @@ def main(root):
         print(f"falls together: {old} and {other} are {to}")
     if together:
         return 1
+    # in the sources a name with neither a capital nor a dash is a function's or a variable's
+    turned = {n: to for n, to in new.items() if "-" in n or n.lower() != n}
     changed = 0
     for f in files(root, "crates/*/specs/**/*.antt", "crates/*/proofs/**/*.antt", "crates/*/src/**/*.rt", "crates/*/must-fail/*.edit"):
         text = read(f)
         own = {m.group(2) for m in MODULE_ALIAS.finditer(text) if m.group(1).rsplit(".", 1)[-1] not in MADE}
-        result = respelled(text, new | local(text, new), own)
+        names = new | local(text, new) if f.endswith(".antt") else turned
+        result = respelled(text, names, own)
         if result != text:
             with open(f, "w", encoding="utf-8") as it:
                 it.write(result)
@@ -169,9 +186,9 @@ def main(root):
     for f in files(root, "README.md", "CHANGELOG.md", "docs/**/*.md", "tests/**/*.md", "tests/**/list.txt"):
         text = read(f)
         if f.endswith(".md"):
-            result = re.sub(r"`[^`\n]+`", lambda m: respelled(m.group(0), new, set()), text)
+            result = re.sub(r"`[^`\n]+`", lambda m: respelled(m.group(0), turned, set()), text)
         else:
-            result = respelled(text, new, set())
+            result = respelled(text, turned, set())
         if result != text:
             with open(f, "w", encoding="utf-8") as it:
                 it.write(result)

@@ -39,7 +39,7 @@ pub struct MapEntryRead {
     pub word: [u64; 4],
 }
 
-fn no_key_lem(why: Refusal, place: usize) -> KeyRead
+fn no_key(why: Refusal, place: usize) -> KeyRead
     ensures { result ≡ no_key why place }
 {
     KeyRead {
@@ -63,7 +63,7 @@ pub fn key_at(s: &[u8], keys: &[u64], index: usize) -> KeyRead
     ensures word_value { result.word ≡ key_of (key_outcome s.now keys.now index) }
 {
     if keys.len() <= index {
-        return no_key_lem(Refusal::Index, index);
+        return no_key(Refusal::Index, index);
     }
     let at = keys[index] as usize;
     let read = read_word(s, ByteOffset(at));
@@ -74,7 +74,7 @@ pub fn key_at(s: &[u8], keys: &[u64], index: usize) -> KeyRead
             answer: KeyAnswer::Key,
             word,
         },
-        WordCheck::Refused(why, place) => no_key_lem(why, place.0),
+        WordCheck::Refused(why, place) => no_key(why, place.0),
     }
 }
 

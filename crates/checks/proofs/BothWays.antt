@@ -12,7 +12,7 @@ use native.Mathlib.Omega.{arith}
 use borrow.Author.Tests.{ltb-true, ltb-false, le-ltb, eq-eqb}
 use lib.Dec.{ltb, eqb}
 use Rattle.wire.specs.Table.{Outcome, refused, accepted, rule, ◌>>=◌}
-use Rattle.wire.specs.Refusals.{ORDER, NOT_CANONICAL}
+use Rattle.wire.specs.Refusals.{ORDER, NOT-CANONICAL}
 use Rattle.wire.proofs.Tables.{none_accepted}
 use Rattle.info.specs.Entry.{word_of}
 use Rattle.info.specs.Node.{class_of, children_of}
@@ -105,5 +105,5 @@ strict_exactly s l =
       λ all. all_pass (node_entry s l) (judge_strict s first) (λ _. tt) l.node_count
           (λ i h.
           let e = all i h in
-          (e.0, (e.1.0, none_accepted (rule NOT_CANONICAL i (not (eqb (word_of e.0) (row_word s first i))) ∷ []) tt (ap not (eq-eqb (word_of e.0) (row_word s first i) e.1.1), tt)))),
+          (e.0, (e.1.0, none_accepted (rule NOT-CANONICAL i (not (eqb (word_of e.0) (row_word s first i))) ∷ []) tt (ap not (eq-eqb (word_of e.0) (row_word s first i) e.1.1), tt)))),
     )

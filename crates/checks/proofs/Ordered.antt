@@ -12,7 +12,7 @@ use native.Mathlib.Omega.{arith}
 use borrow.Author.Tests.{ltb-true, ltb-false, leb-false, eqb-true, not-false}
 use lib.Dec.{ltb, eqb}
 use Rattle.wire.specs.Table.{rule, accepted, pick, NoneMet}
-use Rattle.wire.specs.Refusals.{ORDER, NOT_CANONICAL}
+use Rattle.wire.specs.Refusals.{ORDER, NOT-CANONICAL}
 use Rattle.wire.proofs.Stages.{both_taken}
 use Rattle.wire.proofs.Tables.{accepted_none}
 use Rattle.info.specs.Node.{children_of, is_external, is_block, class_of}
@@ -175,5 +175,5 @@ unfolding strict_outcome
 strict_holds s l holds i h =
     let first = l.node_entry_offset.0 in
     let p = pass_each (node_entry s l) (judge_strict s first) tt l.node_count tt holds i h in
-    let k = accepted_none (rule NOT_CANONICAL i (not (eqb (word_of p.entry) (row_word s first i))) ∷ []) tt p.after p.judged in
+    let k = accepted_none (rule NOT-CANONICAL i (not (eqb (word_of p.entry) (row_word s first i))) ∷ []) tt p.after p.judged in
     (p.entry, (p.read_as, eqb-true (word_of p.entry) (row_word s first i) (not-false (eqb (word_of p.entry) (row_word s first i)) k.0.0)))

@@ -1,7 +1,7 @@
 -- The checks of all nodes: children, order, strict entries. Each reads the nodes from 0 on, and an entry refusal stops it there.
 use Rattle.std.specs.Prelude.{◌≡◌, ◌⊎◌, ℕ, ◌+◌, ◌≤◌, ◌<◌, not, List, [], ◌∷◌, ltb, leb, eqb}
 use Rattle.wire.specs.Table.{Rule, rule, Outcome, accepted, first_met, checked, ◌>>=◌}
-use Rattle.wire.specs.Refusals.{CHILD_RANGE, FORWARD, ORDER, NOT_CANONICAL}
+use Rattle.wire.specs.Refusals.{CHILD-RANGE, FORWARD, ORDER, NOT-CANONICAL}
 use Rattle.info.specs.Node.{children_of, class_of}
 use Rattle.info.specs.Entry.{word_of}
 use Rattle.info.specs.declared.MastNodeEntry.{MastNodeEntry}
@@ -15,7 +15,7 @@ use Rattle.resolved.specs.Nodes.{node_entry}
 unfoldable pub child_rules : ℕ → ℕ → List ℕ → List Rule
 child_rules nodes parent [] = []
 child_rules nodes parent (child ∷ others) =
-    rule CHILD_RANGE parent (leb nodes child)
+    rule CHILD-RANGE parent (leb nodes child)
     ∷ rule FORWARD parent (leb parent child)
     ∷ child_rules nodes parent others
 
@@ -77,7 +77,7 @@ pub record Ordered (s : List ℕ) (l : ForestLayout) (n : ℕ) : Type 0 where
 
 -- a read entry whose written form differs from its 8 bytes [the node]
 abbrev pub judge_strict : List ℕ → ℕ → ℕ → Unit {0} → MastNodeEntry → Outcome (Unit {0})
-judge_strict s first i before e = checked (rule NOT_CANONICAL i (not (eqb (word_of e) (row_word s first i))) ∷ [])
+judge_strict s first i before e = checked (rule NOT-CANONICAL i (not (eqb (word_of e) (row_word s first i))) ∷ [])
 
 unfoldable pub strict_outcome : List ℕ → ForestLayout → Outcome (Unit {0})
 strict_outcome s l = node_pass (node_entry s l) (judge_strict s l.node_entry_offset.0) tt l.node_count

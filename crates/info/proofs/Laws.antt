@@ -1,6 +1,6 @@
 -- The laws of the node entry's two directions.
 --     encoded_decodes     what is encoded decodes to the same entry
---     decoded_encodes     what decodes encodes to the word's canonical form (decoded_word: its word is that)
+--     decoded_encodes     what decodes encodes to the word's canonical form (decoded-word: its word is that)
 --     canonical_exactly   that is the word itself exactly if its tag is below 6 or its payload is zero
 -- Assumes nothing.
 use mathlib.Core.Path.{◌≡◌, refl, ◌∙◌}

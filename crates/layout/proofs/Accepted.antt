@@ -10,7 +10,7 @@ use borrow.Author.Tests.{le-ltb, eqb-true, not-false}
 use lib.Dec.{eqb}
 use lib.ListN.{length}
 use Rattle.wire.specs.Table.{Outcome, refused, accepted, NoneMet}
-use Rattle.wire.specs.Refusals.{ROOT_ID}
+use Rattle.wire.specs.Refusals.{ROOT-ID}
 use Rattle.wire.specs.Le.{le_at, is_short}
 use Rattle.wire.specs.Counts.{counted, count_rule, count_outcome, Reads}
 use Rattle.wire.proofs.Tables.{none_accepted, none_parts}
@@ -87,9 +87,9 @@ module _ (f : FormatFacts) (s : List ℕ) (allow : Bool) (bound : Bound) (unmet 
         let row = pass_each (row_outcome s l.node_entry_offset.0) count_external 0 l.node_count l.external_node_count.0 all_counted.pass i h in
         (row.entry, node_row s l i h ∙ row.read_as)
 
-    -- the root at every index below the number of roots, or ROOT_ID exactly if it names no node
+    -- the root at every index below the number of roots, or ROOT-ID exactly if it names no node
     pub root_answers : (i : ℕ) → i < l.roots_count
-        → (le_at s (root_at s l i) 4 < l.node_count → root_outcome s l i ≡ accepted (le_at s (root_at s l i) 4)) × (l.node_count ≤ le_at s (root_at s l i) 4 → root_outcome s l i ≡ refused ROOT_ID i)
+        → (le_at s (root_at s l i) 4 < l.node_count → root_outcome s l i ≡ accepted (le_at s (root_at s l i) 4)) × (l.node_count ≤ le_at s (root_at s l i) 4 → root_outcome s l i ≡ refused ROOT-ID i)
     root_answers i h =
         let rows : l.roots_offset.0 + 4 * l.roots_count ≤ length s = roots_there f s allow bound unmet in
         let low : row_over l.roots_offset.0 4 i ≡ false = le-ltb (2 ^ 64 - 1) (l.roots_offset.0 + 4 * i + 4) (omega arith) in

@@ -6,7 +6,7 @@ use mathlib.Core.List.{List}
 use Prim.Native.Nat.{ℕ, ◌≤◌, ◌<◌}
 use borrow.Author.Tests.{le-leb, lt-leb}
 use Rattle.wire.specs.Table.{refused, accepted, first_met}
-use Rattle.wire.specs.Refusals.{SHORT, OVERFLOW, INDEX, ROOT_ID}
+use Rattle.wire.specs.Refusals.{SHORT, OVERFLOW, INDEX, ROOT-ID}
 use Rattle.wire.specs.Le.{le_at, is_short}
 use Rattle.rows.specs.Rows.{row_over, row_outcome}
 use Rattle.layout.specs.Index.{root_at, root_rules, root_outcome, node_rules, node_outcome}
@@ -35,7 +35,7 @@ module _ (s : List ℕ) (l : ForestLayout) (i : ℕ) where
       unfolding root_outcome root_rules first_met
       root_short q = rw (lt-leb l.roots_count i h, o, q)
 
-      pub root_high : is_short s (root_at s l i) 4 ≡ false → l.node_count ≤ le_at s (root_at s l i) 4 → root_outcome s l i ≡ refused ROOT_ID i
+      pub root_high : is_short s (root_at s l i) 4 ≡ false → l.node_count ≤ le_at s (root_at s l i) 4 → root_outcome s l i ≡ refused ROOT-ID i
       unfolding root_outcome root_rules first_met
       root_high q n = rw (lt-leb l.roots_count i h, o, q, le-leb l.node_count (le_at s (root_at s l i) 4) n)
 

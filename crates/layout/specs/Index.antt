@@ -1,7 +1,7 @@
 -- Roots and entries by index, over any layout record. The place of each refusal is the index asked for.
 use Rattle.std.specs.Prelude.{ℕ, List, [], ◌∷◌, leb}
 use Rattle.wire.specs.Table.{Rule, rule, Outcome, first_met}
-use Rattle.wire.specs.Refusals.{SHORT, OVERFLOW, INDEX, ROOT_ID}
+use Rattle.wire.specs.Refusals.{SHORT, OVERFLOW, INDEX, ROOT-ID}
 use Rattle.wire.specs.Le.{le_at, is_short}
 use Rattle.info.specs.Entry.{entry_of}
 use Rattle.info.specs.declared.MastNodeEntry.{MastNodeEntry}
@@ -18,7 +18,7 @@ module _ (s : List ℕ) (l : ForestLayout) (i : ℕ) where
       rule INDEX i (leb l.roots_count i)
       ∷ rule OVERFLOW i (row_over l.roots_offset.0 4 i)
       ∷ rule SHORT i (is_short s root_at 4)
-      ∷ rule ROOT_ID i (leb l.node_count (le_at s root_at 4))
+      ∷ rule ROOT-ID i (leb l.node_count (le_at s root_at 4))
       ∷ []
 
   unfoldable pub root_outcome : Outcome ℕ

@@ -3,7 +3,7 @@
 use Rattle.std.specs.Prelude.{ℕ, ◌+◌, ◌*◌, Bool, not, ◌&&◌, List, [], ◌∷◌, ◌++◌, ltb, eqb, get_or}
 use Rattle.std.proofs.Math.Seq.{slice}
 use Rattle.wire.specs.Table.{Rule, rule, Outcome, pick, first_met}
-use Rattle.wire.specs.Refusals.{MAGIC, VERSION, FLAGS, HASHLESS, OVERFLOW, TOO_MANY, BUDGET, EXTERNALS, FORMAT}
+use Rattle.wire.specs.Refusals.{MAGIC, VERSION, FLAGS, HASHLESS, OVERFLOW, TOO-MANY, BUDGET, EXTERNALS, FORMAT}
 use Rattle.wire.specs.Le.{short_rule, over}
 use Rattle.wire.specs.Counts.{long_ones, counted, count_rule}
 use Rattle.wire.specs.Rows.{numbers_of, differs}
@@ -127,7 +127,7 @@ module _ (f : FormatFacts) (s : List ℕ) where
         ∷ budget_rule bound external_at (count_size s external_at)
         ∷ count_rule s external_at
         ∷ rule OVERFLOW 8 (over nodes)
-        ∷ rule TOO_MANY 8 (ltb f.max_nodes nodes)
+        ∷ rule TOO-MANY 8 (ltb f.max_nodes nodes)
         ∷ rule BUDGET 8 (over_budget (left bound roots_at) 8 nodes)
         ∷ rule BUDGET 8 (over_budget (left bound roots_at) 32 external.value)
         ∷ rule BUDGET 8 (not is_hashless && over_budget (left bound roots_at) 32 internal.value)

@@ -3,7 +3,7 @@
 use Rattle.std.specs.Prelude.{ℕ, ◌+◌, ◌*◌, Bool, not, ◌&&◌, List, [], ◌∷◌, ◌++◌, ltb, eqb, length, get_or}
 use Rattle.std.proofs.Math.Seq.{slice}
 use Rattle.wire.specs.Table.{Rule, rule, Outcome, accepted, pick, checked, ◌>>=◌}
-use Rattle.wire.specs.Refusals.{SHORT, MAGIC, VERSION, FLAGS, HASHLESS, OVERFLOW, TOO_MANY, BUDGET, EXTERNALS, FORMAT}
+use Rattle.wire.specs.Refusals.{SHORT, MAGIC, VERSION, FLAGS, HASHLESS, OVERFLOW, TOO-MANY, BUDGET, EXTERNALS, FORMAT}
 use Rattle.wire.specs.Le.{short_rule, over}
 use Rattle.wire.specs.Counts.{count_outcome}
 use Rattle.wire.specs.Rows.{numbers_of, differs}
@@ -43,7 +43,7 @@ mark_rules f allow s =
 unfoldable pub size_rules : FormatFacts → ℕ → ℕ → List Rule
 size_rules f internal external =
     rule OVERFLOW 8 (over (internal + external))
-    ∷ rule TOO_MANY 8 (ltb f.max_nodes (internal + external))
+    ∷ rule TOO-MANY 8 (ltb f.max_nodes (internal + external))
     ∷ []
 
 -- a count's read is paid for

@@ -2,7 +2,7 @@
 -- every file (`no_bound` in proofs/Falling.antt); what is said of files that are read with no bound rests on this one.
 use Rattle.std.specs.Prelude.{ℕ, ◌*◌, Bool, not, ◌&&◌, List, [], ◌∷◌, ◌++◌, ltb, eqb}
 use Rattle.wire.specs.Table.{Rule, rule}
-use Rattle.wire.specs.Refusals.{MAGIC, VERSION, FLAGS, HASHLESS, OVERFLOW, TOO_MANY, EXTERNALS, FORMAT}
+use Rattle.wire.specs.Refusals.{MAGIC, VERSION, FLAGS, HASHLESS, OVERFLOW, TOO-MANY, EXTERNALS, FORMAT}
 use Rattle.wire.specs.Le.{short_rule, over}
 use Rattle.wire.specs.Counts.{count_rule}
 use Rattle.wire.specs.Rows.{differs}
@@ -23,7 +23,7 @@ unbound_rules f s allow =
     ∷ count_rule s 8
     ∷ count_rule s (external_at f s)
     ∷ rule OVERFLOW 8 (over (nodes f s))
-    ∷ rule TOO_MANY 8 (ltb f.max_nodes (nodes f s))
+    ∷ rule TOO-MANY 8 (ltb f.max_nodes (nodes f s))
     ∷ count_rule s (roots_at f s)
     ∷ rule OVERFLOW (roots_at f s) (over (4 * (roots f s).value))
     ∷ short_rule s (root_rows f s) (4 * (roots f s).value)

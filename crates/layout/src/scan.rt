@@ -297,7 +297,7 @@ fn layout_of(head: Head, roots: Section, blocks: Section) -> ForestLayout
     let entries_at = blocks.at.0 + blocks.count;
     let digests_at = entries_at + 8 * nodes;
     let hashes_at = digests_at + 32 * head.external;
-    let map_at_lem = hashes_at + hash_bytes(head.hashless, head.internal);
+    let map_at = hashes_at + hash_bytes(head.hashless, head.internal);
     let hashes = hash_section(head.hashless, hashes_at);
     let rows = roots.at;
     let data = blocks.at;
@@ -312,7 +312,7 @@ fn layout_of(head: Head, roots: Section, blocks: Section) -> ForestLayout
         node_entry_offset: ByteOffset(entries_at),
         external_digest_offset: ByteOffset(digests_at),
         node_hash_offset: hashes,
-        advice_map_offset: ByteOffset(map_at_lem),
+        advice_map_offset: ByteOffset(map_at),
     }
 }
 

@@ -2,7 +2,7 @@
 //
 //     mast_layout [MAGIC VERSION HASHLESS RESERVED MAXIMUM]
 //
-// The five words replace the stand_in format facts: magic in 8 hexadecimal digits, version in 6, the two
+// The five words replace the stand-in format facts: magic in 8 hexadecimal digits, version in 6, the two
 // masks in 2 each, the node maximum in decimal. Wrong words give one line on standard error, and nothing
 // is read. What is said, and where, is the proved function `program` of the crate page, whose types fix the
 // rooms lent here: this file moves bytes.

@@ -24,7 +24,7 @@ unfoldable pub word_count : List ℕ → ℕ
 word_count [] = 0
 word_count (b ∷ s) = pick (eqb b 0) (1 + word_count s) (word_count s)
 
--- ---- the facts: the stand_in ones of no word, what five words say, and none of any other number of words, which is wrong as number 0
+-- ---- the facts: the stand-in ones of no word, what five words say, and none of any other number of words, which is wrong as number 0
 
 unfoldable pub command_check : List ℕ → WordsCheck
 command_check words =

@@ -79,7 +79,7 @@ pub record AcceptedFile (f : FormatFacts) (s : List ℕ) (l : ForestLayout) : Ty
   -- its sections lie end to end, and its nodes are as many as they say
   pub sections : EndToEnd f s l
   pub counted : Counted f s l
-  -- the entry of every node reads, and is that of the file's parts; and so every root, with ROOT_ID exactly if it names no node
+  -- the entry of every node reads, and is that of the file's parts; and so every root, with ROOT-ID exactly if it names no node
   pub entries : (i : ℕ) (x : RowEntry) → ReadsNode s l i x → i < l.node_count → x ≡ row.Entry (entry_of (get_or (parts_shown f s).words i 0))
   pub roots : (i : ℕ) (x : RootRead) → ReadsRoot s l i x → i < l.roots_count
       → (get_or (parts_shown f s).roots i 0 < l.node_count → x ≡ root.Root (get_or (parts_shown f s).roots i 0)) × (l.node_count ≤ get_or (parts_shown f s).roots i 0 → x ≡ root.Refused RootId i)
@@ -89,7 +89,7 @@ pub record AcceptedFile (f : FormatFacts) (s : List ℕ) (l : ForestLayout) : Ty
       → r ≡ Filled (spent bound (4 * l.node_count))
   pub slots : (bound left : Bound) (t₀ t : List ℕ) → Builds s l bound t₀ t (Filled left) → (i : ℕ) → i < l.node_count
       → (get_or t i 0 ≡ slot_of (external_node s l) i) × (slot_of (external_node s l) i < rows_of l (external_node s l i))
-  -- a digest, by counting or with such a table, is the word of its row, or NO_HASH, or ELEMENT; and it is the same by both ways
+  -- a digest, by counting or with such a table, is the word of its row, or NO-HASH, or ELEMENT; and it is the same by both ways
   pub digests : (i : ℕ) (x : DigestRead) → i < l.node_count → ReadsDigest s l i x → DigestSaid s i (slot_of (external_node s l) i) (section_of l (external_node s l i)) (shown_digest x)
   pub agree : (bound left : Bound) (t₀ t : List ℕ) → Builds s l bound t₀ t (Filled left) → (i : ℕ) (x y : DigestRead) → WithTable s l i t x → ByCounting s l i y → x ≡ y
 

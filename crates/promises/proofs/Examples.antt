@@ -8,7 +8,7 @@ use mathlib.Core.List.{List, [], ◌∷◌, ◌++◌, map}
 use Prim.Native.Nat.{ℕ, ◌-◌, ◌^◌}
 use lib.Count.{count_trailing_zeros, ones, ones_in}
 use Rattle.wire.specs.Table.{Outcome, refused, accepted, first_met, ◌>>=◌, At}
-use Rattle.wire.specs.Refusals.{SHORT, MAGIC, VERSION, FLAGS, OVERFLOW, TOO_MANY, BUDGET, TAG, PAYLOAD, EXTERNALS}
+use Rattle.wire.specs.Refusals.{SHORT, MAGIC, VERSION, FLAGS, OVERFLOW, TOO-MANY, BUDGET, TAG, PAYLOAD, EXTERNALS}
 use Rattle.wire.specs.Le.{le, le_bytes}
 use Rattle.wire.specs.Counts.{long_ones, count_length, count_value, counted, count_outcome, least_from, shortest_len, count_form, count_bytes}
 use Rattle.wire.specs.Rows.{numbers_of}
@@ -68,7 +68,7 @@ says v n = counts (accepted (record { value = record { value = v; len = n; short
 abbrev pub says_long : ℕ → ℕ → Answer
 says_long v n = counts (accepted (record { value = record { value = v; len = n; shortest = false }; next = n }))
 
--- the stand_in facts of the small program: magic MAST, version 0 0 2, hashless mask 2, reserved mask 0xFC, at most 2 ^ 30 - 1 nodes
+-- the stand-in facts of the small program: magic MAST, version 0 0 2, hashless mask 2, reserved mask 0xFC, at most 2 ^ 30 - 1 nodes
 abbrev pub stand_in : FormatFacts
 stand_in =
     record {
@@ -226,7 +226,7 @@ examples =
     ∷ (under 9 (headed (0x03 ∷ [])) ⇒ map_at_lem (refused BUDGET 9))
     ∷ (under 10 (headed (0x03 ∷ [])) ⇒ map_at_lem (refused SHORT 9))
     ∷ (under 18 (headed (0x00 ∷ 0xFF ∷ 0xFF ∷ 0xFF ∷ 0xFF ∷ 0xFF ∷ 0xFF ∷ 0xFF ∷ 0xFF ∷ 0x03 ∷ [])) ⇒ map_at_lem (refused OVERFLOW 8))
-    ∷ (under 14 (headed (0x10 ∷ 0x00 ∷ 0x00 ∷ 0x00 ∷ 0x08 ∷ 0x01 ∷ [])) ⇒ map_at_lem (refused TOO_MANY 8))
+    ∷ (under 14 (headed (0x10 ∷ 0x00 ∷ 0x00 ∷ 0x00 ∷ 0x08 ∷ 0x01 ∷ [])) ⇒ map_at_lem (refused TOO-MANY 8))
     ∷ (under 17 (headed (0x03 ∷ 0x01 ∷ [])) ⇒ map_at_lem (refused BUDGET 8))
     ∷ (under 41 (headed (0x01 ∷ 0x03 ∷ [])) ⇒ map_at_lem (refused BUDGET 8))
     ∷ (under 42 (headed (0x01 ∷ 0x03 ∷ [])) ⇒ map_at_lem (refused SHORT 10))

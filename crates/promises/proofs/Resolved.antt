@@ -1,6 +1,6 @@
 -- Slots and digests. The builder fills a table for an accepted file, given room and as many bytes as it asks, and the table has at each node the
 -- number of earlier nodes of its kind, below its section's count; so the digest rows lie inside their sections, in node order, and a digest by
--- either way is its row's word, or NO_HASH, or ELEMENT, and nothing else; over a table that the builder wrote the two digest readers agree.
+-- either way is its row's word, or NO-HASH, or ELEMENT, and nothing else; over a table that the builder wrote the two digest readers agree.
 -- Assumes nothing.
 use mathlib.Core.Path.{◌≡◌, sym}
 use mathlib.Core.Bool.{Bool, false}
@@ -67,7 +67,7 @@ module _ (s : List ℕ) (f : FormatFacts) (allow : Bool) (bound : Bound) (r : Sc
       × (section.0 + 32 * rows_of l (external_node s l i) ≤ length s)
   digest_row_inside = sections.row_in_section f s l (sections_end_to_end s f allow bound r promised l long taken) (nodes_counted s f allow bound r promised l long taken)
 
-  -- a digest by either way is the row's word, or NO_HASH, or ELEMENT
+  -- a digest by either way is the row's word, or NO-HASH, or ELEMENT
   pub digest_of_each : (i : ℕ) (x : DigestRead) → i < l.node_count → ReadsDigest s l i x → DigestSaid s i (slot_of (external_node s l) i) (section_of l (external_node s l i)) (shown_digest x)
   digest_of_each i x h (by_counting read) =
       rw read.0 (fills.digest_said f s l (sections_end_to_end s f allow bound r promised l long taken) (nodes_counted s f allow bound r promised l long taken) promised.given.below i h)

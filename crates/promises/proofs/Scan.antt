@@ -9,7 +9,7 @@ use mathlib.Core.Logic.{◌↔◌}
 use Prim.Native.Nat.{ℕ, ◌≤◌, ◌<◌}
 use lib.ListN.{get_or}
 use Rattle.wire.specs.Table.{refused, accepted, NoneMet, FirstMet}
-use Rattle.wire.specs.Refusals.{ROOT_ID, number_of}
+use Rattle.wire.specs.Refusals.{ROOT-ID, number_of}
 use Rattle.wire.specs.Counts.{long_ones}
 use Rattle.wire.specs.declared.refusal.Refusal.{Refusal}
 use Rattle.wire.specs.declared.refusal.Refusal.TheVariants.{RootId}
@@ -88,13 +88,13 @@ module _ (s : List ℕ) (f : FormatFacts) (allow : Bool) (bound : Bound) (r : Sc
         let found = subst (λ (k : ForestLayout). (i : ℕ) → i < k.node_count → node_outcome s k i ≡ accepted (entry_of (get_or (parts_shown f s).words i 0))) same (entry_shown f s allow bound unmet promised.given.below) i h in
         same_answer shown_row row_back row_again _ x (row.Entry _) said (sym found)
 
-    -- and the reader of a root below the number of roots with the parts' root, or ROOT_ID exactly if that names no node
+    -- and the reader of a root below the number of roots with the parts' root, or ROOT-ID exactly if that names no node
     pub every_root : (i : ℕ) (x : RootRead) → ReadsRoot s l i x → i < l.roots_count
         → (get_or (parts_shown f s).roots i 0 < l.node_count → x ≡ root.Root (get_or (parts_shown f s).roots i 0)) × (l.node_count ≤ get_or (parts_shown f s).roots i 0 → x ≡ root.Refused RootId i)
     every_root i x said h =
         let law =
         subst (λ (k : ForestLayout). (i : ℕ) → i < k.roots_count
-        → (get_or (parts_shown f s).roots i 0 < k.node_count → root_outcome s k i ≡ accepted (get_or (parts_shown f s).roots i 0)) × (k.node_count ≤ get_or (parts_shown f s).roots i 0 → root_outcome s k i ≡ refused ROOT_ID i)) same
+        → (get_or (parts_shown f s).roots i 0 < k.node_count → root_outcome s k i ≡ accepted (get_or (parts_shown f s).roots i 0)) × (k.node_count ≤ get_or (parts_shown f s).roots i 0 → root_outcome s k i ≡ refused ROOT-ID i)) same
         (root_shown f s allow bound unmet promised.given.below) i h in (
           λ k. same_answer shown_root root_back root_again _ x (root.Root _) said (sym (law.0 k)),
           λ k. same_answer shown_root root_back root_again _ x (root.Refused RootId i) said (sym (law.1 k)),

@@ -11,7 +11,7 @@ use borrow.Author.Tests.{le-ltb}
 use lib.Dec.{ltb, eqb}
 use lib.ListN.{length, length-append}
 use Rattle.wire.specs.Table.{Rule, rule, NoneMet}
-use Rattle.wire.specs.Refusals.{SHORT, MAGIC, VERSION, FLAGS, HASHLESS, OVERFLOW, TOO_MANY, EXTERNALS, FORMAT}
+use Rattle.wire.specs.Refusals.{SHORT, MAGIC, VERSION, FLAGS, HASHLESS, OVERFLOW, TOO-MANY, EXTERNALS, FORMAT}
 use Rattle.wire.specs.Le.{over}
 use Rattle.wire.specs.Counts.{counted}
 use Rattle.wire.specs.Rows.{rows}
@@ -160,7 +160,7 @@ module _ (f : FormatFacts) where
 
   -- the two node counts
   abbrev external_count : ℕ → Piece Count
-  external_count i = counting (λ at. 8) (λ e. (OVERFLOW, over (i + e)) ∷ (TOO_MANY, ltb f.max_nodes (i + e)) ∷ [])
+  external_count i = counting (λ at. 8) (λ e. (OVERFLOW, over (i + e)) ∷ (TOO-MANY, ltb f.max_nodes (i + e)) ∷ [])
 
   module _ (k : Proper f) where
     abbrev header : Piece Header

@@ -1,7 +1,7 @@
 -- The entries and the roots of an accepted file by index are those that its parts have.
 --     row_at          number i of n rows of k bytes at a place
 --     entry_shown     the entry of node i is that of word i of the parts
---     root_shown      root i is number i of the parts' roots, or ROOT_ID exactly if that names no node
+--     root_shown      root i is number i of the parts' roots, or ROOT-ID exactly if that names no node
 -- Assumes nothing.
 use mathlib.Core.Path.{◌≡◌, sym, ap, ◌∙◌}
 use mathlib.Core.Bool.{Bool}
@@ -12,7 +12,7 @@ use native.Mathlib.Omega.{arith}
 use lib.ListN.{length, get_or}
 use lib.Seq.{slice}
 use Rattle.wire.specs.Table.{refused, accepted, NoneMet}
-use Rattle.wire.specs.Refusals.{ROOT_ID}
+use Rattle.wire.specs.Refusals.{ROOT-ID}
 use Rattle.wire.specs.Le.{le_at}
 use Rattle.wire.specs.Rows.{numbers_of}
 use Rattle.wire.proofs.Tables.{accepted_none}
@@ -60,7 +60,7 @@ module _ (f : FormatFacts) (s : List ℕ) (allow : Bool) (bound : Bound) (unmet 
       found.1 ∙ ap accepted (sym same) ∙ ap (λ (w : ℕ). accepted (entry_of w)) (sym (row_at 8 (nodes f s) s (entries_at f s) i inside h))
 
   pub root_shown : (i : ℕ) → i < l.roots_count
-      → (get_or (parts_shown f s).roots i 0 < l.node_count → root_outcome s l i ≡ accepted (get_or (parts_shown f s).roots i 0)) × (l.node_count ≤ get_or (parts_shown f s).roots i 0 → root_outcome s l i ≡ refused ROOT_ID i)
+      → (get_or (parts_shown f s).roots i 0 < l.node_count → root_outcome s l i ≡ accepted (get_or (parts_shown f s).roots i 0)) × (l.node_count ≤ get_or (parts_shown f s).roots i 0 → root_outcome s l i ≡ refused ROOT-ID i)
   unfolding parts_shown
   root_shown i h =
       let x = end_to_end f s allow bound unmet in

@@ -1,6 +1,6 @@
 -- Of a record that fits its file, as the record of an accepted scan does (`EndToEnd` and `Counted` of layout's specs).
 --     slots_fill      the slot builder fills, given room and as many bytes as it asks
---     digest_said     a node's digest by counting is what its row says: the word, or NO_HASH, or ELEMENT, and nothing else
+--     digest_said     a node's digest by counting is what its row says: the word, or NO-HASH, or ELEMENT, and nothing else
 -- Assumes nothing.
 use mathlib.Core.Path.{◌≡◌, refl, ap}
 use mathlib.Core.Bool.{Bool, true, false}

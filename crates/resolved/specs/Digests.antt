@@ -1,7 +1,7 @@
 -- The digest of a node, by counting the earlier nodes of its kind, and with a lent slot table.
 use Rattle.std.specs.Prelude.{ℕ, ◌≡◌, Bool, true, false, List, [], ◌∷◌, ltb, leb, length, get_or}
 use Rattle.wire.specs.Table.{Rule, rule, Outcome, refused, accepted, first_met, checked, ◌>>=◌}
-use Rattle.wire.specs.Refusals.{SHORT, OVERFLOW, INDEX, NO_HASH, ELEMENT, ROOM}
+use Rattle.wire.specs.Refusals.{SHORT, OVERFLOW, INDEX, NO-HASH, ELEMENT, ROOM}
 use Rattle.wire.specs.Le.{is_short}
 use Rattle.wire.specs.Words.{not_elements, zero_word, four_at}
 use Rattle.info.specs.Node.{is_external}
@@ -32,9 +32,9 @@ digest_rules s index section slot =
 unfoldable pub digest_at : List ℕ → ℕ → ℕ → ℕ → Outcome (List ℕ)
 digest_at s index section slot = first_met (digest_rules s index section slot) (four_at s (row_at section 32 slot))
 
--- the digest in a slot of a section; NO_HASH where the section is not there
+-- the digest in a slot of a section; NO-HASH where the section is not there
 abbrev pub digest_in : List ℕ → ℕ → ℕ → HashSection → Outcome (List ℕ)
-digest_in s index slot Absent = refused NO_HASH index
+digest_in s index slot Absent = refused NO-HASH index
 digest_in s index slot (At section) = digest_at s index section.0 slot
 
 -- by counting: INDEX, the entries of nodes 0 to the index in turn, and the digest in the node's slot
@@ -61,9 +61,9 @@ digest_of (accepted word) = word
 abbrev pub no_digest : Refusal → ℕ → DigestRead
 no_digest why index = record { answer = Refused why index; word = zero_word }
 
--- What a node's digest can be where its row lies inside the file, in its slot of its kind's section: the row's word; NO_HASH exactly if there is no
+-- What a node's digest can be where its row lies inside the file, in its slot of its kind's section: the row's word; NO-HASH exactly if there is no
 -- section; ELEMENT exactly if the row is no word.
 pub data DigestSaid (s : List ℕ) (i slot : ℕ) (section : HashSection) : Outcome (List ℕ) → Type 0 where
   word : (at : ByteOffset) → section ≡ At at → not_elements (four_at s (row_at at.0 32 slot)) ≡ false → DigestSaid s i slot section (accepted (four_at s (row_at at.0 32 slot)))
-  no_hash : section ≡ Absent → DigestSaid s i slot section (refused NO_HASH i)
+  no_hash : section ≡ Absent → DigestSaid s i slot section (refused NO-HASH i)
   no_element_lem : (at : ByteOffset) → section ≡ At at → not_elements (four_at s (row_at at.0 32 slot)) ≡ true → DigestSaid s i slot section (refused ELEMENT i)

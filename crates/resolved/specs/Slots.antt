@@ -2,7 +2,7 @@
 use Rattle.std.specs.Prelude.{ℕ, zero, suc, ◌+◌, ◌-◌, ◌*◌, ◌^◌, Bool, true, false, List, [], ◌∷◌, ◌++◌, ltb, length, drop}
 use Rattle.std.specs.Bool.{beq}
 use Rattle.wire.specs.Table.{Rule, rule, Outcome, refused, accepted, pick, checked, ◌>>=◌}
-use Rattle.wire.specs.Refusals.{TOO_MANY, BUDGET, ROOM}
+use Rattle.wire.specs.Refusals.{TOO-MANY, BUDGET, ROOM}
 use Rattle.rows.specs.Rows.{entry_pass}
 use Rattle.layout.specs.declared.facts.Bound.{Bound}
 use Rattle.layout.specs.declared.facts.Bound.TheVariants.{None, Bytes}
@@ -47,7 +47,7 @@ spent (Bytes n) bytes = Bytes (n - bytes)
 -- before any entry is read, all [0]: more than 2 ^ 30 nodes, a bound below 4 bytes for each, a table with less room
 unfoldable pub table_rules : ℕ → Bound → ℕ → List Rule
 table_rules nodes bound room =
-    rule TOO_MANY 0 (ltb (2 ^ 30) nodes)
+    rule TOO-MANY 0 (ltb (2 ^ 30) nodes)
     ∷ rule BUDGET 0 (lacks bound (4 * nodes))
     ∷ rule ROOM 0 (ltb room nodes)
     ∷ []

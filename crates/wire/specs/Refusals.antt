@@ -21,8 +21,8 @@ HASHLESS = 5
 abbrev pub OVERFLOW : ℕ
 OVERFLOW = 6
 
-abbrev pub TOO_MANY : ℕ
-TOO_MANY = 7
+abbrev pub TOO-MANY : ℕ
+TOO-MANY = 7
 
 abbrev pub BUDGET : ℕ
 BUDGET = 8
@@ -39,14 +39,14 @@ EXTERNALS = 11
 abbrev pub INDEX : ℕ
 INDEX = 12
 
-abbrev pub ROOT_ID : ℕ
-ROOT_ID = 13
+abbrev pub ROOT-ID : ℕ
+ROOT-ID = 13
 
-abbrev pub NO_HASH : ℕ
-NO_HASH = 14
+abbrev pub NO-HASH : ℕ
+NO-HASH = 14
 
-abbrev pub CHILD_RANGE : ℕ
-CHILD_RANGE = 15
+abbrev pub CHILD-RANGE : ℕ
+CHILD-RANGE = 15
 
 abbrev pub FORWARD : ℕ
 FORWARD = 16
@@ -66,8 +66,8 @@ ROOM = 20
 abbrev pub FORMAT : ℕ
 FORMAT = 21
 
-abbrev pub NOT_CANONICAL : ℕ
-NOT_CANONICAL = 22
+abbrev pub NOT-CANONICAL : ℕ
+NOT-CANONICAL = 22
 
 abbrev pub PARTS : ℕ
 PARTS = 23
@@ -79,20 +79,20 @@ number_of Version = VERSION
 number_of Flags = FLAGS
 number_of Hashless = HASHLESS
 number_of Overflow = OVERFLOW
-number_of TooMany = TOO_MANY
+number_of TooMany = TOO-MANY
 number_of Budget = BUDGET
 number_of Tag = TAG
 number_of Payload = PAYLOAD
 number_of Externals = EXTERNALS
 number_of Index = INDEX
-number_of RootId = ROOT_ID
-number_of NoHash = NO_HASH
-number_of ChildRange = CHILD_RANGE
+number_of RootId = ROOT-ID
+number_of NoHash = NO-HASH
+number_of ChildRange = CHILD-RANGE
 number_of Forward = FORWARD
 number_of Order = ORDER
 number_of Element = ELEMENT
 number_of Duplicate = DUPLICATE
 number_of Room = ROOM
 number_of Format = FORMAT
-number_of NotCanonical = NOT_CANONICAL
+number_of NotCanonical = NOT-CANONICAL
 number_of Parts = PARTS

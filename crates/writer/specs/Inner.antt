@@ -2,7 +2,7 @@
 -- A reader who believes the table of Writer need not read them: proofs/Split.antt shows that they say what the table says.
 use Rattle.std.specs.Prelude.{ℕ, ◌+◌, ◌-◌, ◌*◌, ◌^◌, ◌<◌, ◌≡◌, Bool, true, false, not, List, [], ◌∷◌, map, ◌⊎◌, length, ltb, eqb}
 use Rattle.wire.specs.Table.{Rule, rule, Outcome, refused, accepted, pick, first_met, checked, NoneMet, ◌>>=◌}
-use Rattle.wire.specs.Refusals.{FLAGS, OVERFLOW, TOO_MANY, ROOM, FORMAT, PARTS, number_of}
+use Rattle.wire.specs.Refusals.{FLAGS, OVERFLOW, TOO-MANY, ROOM, FORMAT, PARTS, number_of}
 use Rattle.wire.specs.Le.{over}
 use Rattle.wire.specs.Rows.{Below as AllBelow}
 use Rattle.wire.specs.Counts.{shortest_len}
@@ -41,7 +41,7 @@ unfoldable pub head_rules : FormatFacts → ℕ → ℕ → List Rule
 head_rules f flags n =
     rule FORMAT 0 (bad_format f)
     ∷ rule FLAGS 4 (share flags f.reserved)
-    ∷ rule TOO_MANY 0 (ltb f.max_nodes n)
+    ∷ rule TOO-MANY 0 (ltb f.max_nodes n)
     ∷ []
 
 -- by the lengths of the parts

@@ -1,7 +1,7 @@
 -- The writer: the file of some parts, what is refused, in the paper's order, and what the output holds afterwards.
 use Rattle.std.specs.Prelude.{ℕ, ◌+◌, ◌-◌, ◌*◌, List, [], ◌∷◌, ◌++◌, map, not, length, take, drop, ltb, eqb}
 use Rattle.wire.specs.Table.{Rule, rule, Outcome, refused, accepted, first_met}
-use Rattle.wire.specs.Refusals.{FLAGS, OVERFLOW, TOO_MANY, ELEMENT, DUPLICATE, ROOM, FORMAT, PARTS}
+use Rattle.wire.specs.Refusals.{FLAGS, OVERFLOW, TOO-MANY, ELEMENT, DUPLICATE, ROOM, FORMAT, PARTS}
 use Rattle.wire.specs.Le.{over}
 use Rattle.wire.specs.Rows.{rows}
 use Rattle.wire.specs.Counts.{count_bytes}
@@ -69,7 +69,7 @@ unfoldable pub writer_rules : FormatFacts → Parts → ℕ → List Rule
 writer_rules f p room =
     rule FORMAT 0 (bad_format f)
     ∷ rule FLAGS 4 (share p.flags f.reserved)
-    ∷ rule TOO_MANY 0 (ltb f.max_nodes (length p.words))
+    ∷ rule TOO-MANY 0 (ltb f.max_nodes (length p.words))
     ∷ words_rules 1 0 p.words
     ++ (rule PARTS 1 (not (eqb (length p.external) (32 * externals p.words)))
     ∷ rule PARTS 2 (not (eqb (length p.hashes) (hash_bytes (share p.flags f.hashless) (internals p.words))))

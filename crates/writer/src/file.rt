@@ -58,10 +58,10 @@ fn write_back(
     requires part_len { length part.old ≡ (8 * length words.now + length external.now + length hashes.now) + (shortest_len (length lengths.now) + length (advice_bytes keys.now lengths.now values.now)) }
     ensures { part.new ≡ (rows 8 (map canonical words.now) ++ (external.now ++ hashes.now)) ++ (count_bytes (length lengths.now) ++ advice_bytes keys.now lengths.now values.now) }
 {
-    let map_at_lem = 8 * words.len() + external.len() + hashes.len();
-    let end = map_at_lem + (part.len() - map_at_lem);
-    write_nodes(words, external, hashes, &mut part[0..map_at_lem]);
-    write_map(keys, lengths, values, &mut part[map_at_lem..end]);
+    let map_at = 8 * words.len() + external.len() + hashes.len();
+    let end = map_at + (part.len() - map_at);
+    write_nodes(words, external, hashes, &mut part[0..map_at]);
+    write_map(keys, lengths, values, &mut part[map_at..end]);
 }
 
 // Into an output of exactly the file's size.

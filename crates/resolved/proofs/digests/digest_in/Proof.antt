@@ -1,4 +1,4 @@
--- `resolved::digests::digest_in` meets its contract: the section of the kind, or NO_HASH.
+-- `resolved::digests::digest_in` meets its contract: the section of the kind, or NO-HASH.
 -- Assumes nothing.
 use mathlib.Core.Path.{refl}
 use borrow.Author.Rules.{rules}
