@@ -162,9 +162,6 @@ static const struct operation operations[] = {
     {"scan, mixed", OF(scan), MIXED, 1, MOST},
     {"scan, 16 nodes", OF(scan), SMALL, 1, MOST}, // ns for the whole scan of a small file
     {"scan, 16, padded", OF(scan), SMALL_PADDED, 1, MOST},
-    {"scan bound", OF(bounded), CLASSES, 1, MOST},
-    {"scan bound, mixed", OF(bounded), MIXED, 1, MOST},
-    {"scan bound, 16", OF(bounded), SMALL, 1, MOST},
     {"slots", OF(slots), CLASSES, 1, MOST},
     {"entry, in turn", OF(entry), CLASSES, 1, MOST},
     {"entry, random", OF(entry), CLASSES, 0, MOST},

@@ -36,12 +36,11 @@ struct counted {
     uint64_t refusal, value, len, next, place, shortest;
 };
 
-// bounded: the scan under a bound of the file's length, which it passes
 // call: `veka_version`, which is given nothing and only returns a number, as often as there are counts; a build before version 0.2.0 has none
 struct side {
     uint64_t (*version)(void);
-    void (*scan)(void), (*bounded)(void), (*slots)(void), (*entry)(void), (*digest)(void), (*children)(void), (*order)(void), (*strict)(void),
-        (*walk)(void), (*lookup)(void), (*write)(void), (*count)(void), (*call)(void);
+    void (*scan)(void), (*slots)(void), (*entry)(void), (*digest)(void), (*children)(void), (*order)(void), (*strict)(void), (*walk)(void),
+        (*lookup)(void), (*write)(void), (*count)(void), (*call)(void);
     struct counted (*count_at)(const uint8_t *s, size_t len, size_t at);
 };
 

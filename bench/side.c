@@ -28,13 +28,10 @@ static void set_facts(void) {
     facts[7] = hashless, facts[8] = reserved, facts[9] = max_nodes;
 }
 
-static void scan_under(uint64_t flag, size_t bound) {
+static void scan(void) {
     set_facts();
-    for (size_t i = 0; i < scans; i++) must(vk_scan(file, file_len, facts, 10, true, flag, bound, layout, 12));
+    for (size_t i = 0; i < scans; i++) must(vk_scan(file, file_len, facts, 10, true, 0, 0, layout, 12));
 }
-
-static void scan(void) { scan_under(0, 0); }
-static void bounded(void) { scan_under(1, file_len); }
 
 static void slots(void) { must(vk_slots(file, file_len, layout, 12, 0, 0, table, nodes, row, 12)); }
 static void children(void) { must(vk_children(file, file_len, layout, 12, row, 12)); }
@@ -90,13 +87,10 @@ static veka_facts_t facts_given(void) {
 
 static veka_layout_t *const at = (veka_layout_t *)layout;
 
-static void scan_under(veka_bound_t bound) {
+static void scan(void) {
     veka_facts_t facts = facts_given();
-    for (size_t i = 0; i < scans; i++) must(veka_scan(file, file_len, &facts, true, bound, (veka_scanned_t *)layout, &place));
+    for (size_t i = 0; i < scans; i++) must(veka_scan(file, file_len, &facts, true, veka_no_bound(), (veka_scanned_t *)layout, &place));
 }
-
-static void scan(void) { scan_under(veka_no_bound()); }
-static void bounded(void) { scan_under(veka_bound(file_len)); }
 
 static void slots(void) {
     veka_bound_t left;
@@ -161,5 +155,4 @@ static struct counted count_at(const uint8_t *s, size_t len, size_t at) {
 
 #endif
 
-const struct side SIDE = {veka_version, scan,   bounded, slots, entry, digest, children, order,
-                          strict,       walk,   lookup,  write, count, call,   count_at};
+const struct side SIDE = {veka_version, scan, slots, entry, digest, children, order, strict, walk, lookup, write, count, call, count_at};

@@ -22,7 +22,7 @@ typedef struct {
     uint8_t reserved;   /* the flag bits that must be zero; not the hashless bit */
 } veka_marks_t;
 
-/* How many bytes a call may take: for reading and allocating (veka_scan), or for the table (veka_slots). */
+/* How many bytes a reader may have to allocate. */
 typedef struct {
     uint64_t bounded; /* 0: there is no bound */
     uint64_t bytes;

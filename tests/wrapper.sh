@@ -102,7 +102,7 @@ done
 compiled edges tests/header/edges.c
 for as in c cpp; do
     step "edges_${as}_run" "$work/edges_$as"
-    echo "counts and scans, nothing outside a slice, as $as: $(tail -n 1 "$work/edges_${as}_run.log")"
+    echo "counts, nothing outside a slice, as $as: $(tail -n 1 "$work/edges_${as}_run.log")"
 done
 step swapped sh tests/header/swapped.sh
 echo "swapped arguments: $(tail -n 1 "$work/swapped.log")"

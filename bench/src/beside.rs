@@ -33,8 +33,8 @@ pub fn same_layout(bytes: &[u8], ours: &Layout) -> Scanned {
     scanned
 }
 
-pub fn scan(bytes: &[u8], bound: Option<usize>) -> Result<Scanned, Error> {
-    direct::scan(bytes, true, bound)
+pub fn scan(bytes: &[u8]) -> Result<Scanned, Error> {
+    direct::scan(bytes, true, None)
 }
 
 /// Their entry as ours.

@@ -131,9 +131,7 @@ pub fn flags(s: &[u8]) -> Result<u8, Refusal> {
 /// Where a file's sections lie. The map is not looked at: see [`walk_map`]. [`Forest::scan`](crate::Forest::scan) has its options by name,
 /// and [`scan_counting`] also says how many counts are long.
 ///
-/// `bound` is one sum of bytes for reading and allocating, and falls as bytes are read. A read of more than is left of it is `Budget`, and so
-/// is a count of more things than fit into what is left. The least that serves a file is its `advice_map_offset`; its length always serves.
-/// [`ScanOptions::bound`](crate::ScanOptions::bound()) has an example.
+/// `bound` is how many bytes a reader of the file may have to allocate: with n, a count above n / size is `Budget`.
 ///
 /// # Errors
 /// `Format`, `Short`, `Magic`, `Version`, `Flags`, `Hashless` (unless allowed), `Overflow`, `TooMany`, `Budget`, `Tag`,

@@ -82,8 +82,7 @@ impl FromStr for Facts {
 pub struct ScanOptions {
     /// Whether a file without hashes is accepted; else it is refused as [`Kind::Hashless`](crate::Kind::Hashless).
     pub allow_hashless: bool,
-    /// One sum of bytes for reading and allocating, which falls as bytes are read. A read of more than is left of it is
-    /// [`Kind::Budget`](crate::Kind::Budget), and so is a count of more things than fit into what is left.
+    /// How many bytes a reader of the file may have to allocate: with n, a count above n / size is [`Kind::Budget`](crate::Kind::Budget).
     pub bound: Option<usize>,
 }
 
@@ -100,24 +99,7 @@ impl ScanOptions {
         ScanOptions { allow_hashless: true, ..self }
     }
 
-    /// The same under a bound of so many bytes. The least that serves a file is its
-    /// [`advice_map_offset`](crate::Layout::advice_map_offset), since every byte before the map is read once and the map is not looked at. So
-    /// its length always serves: such a bound refuses no file that would pass without one.
-    ///
-    /// ```
-    /// use vekalumist::{ByteOffset, Facts, Forest, Kind, Place, ScanOptions};
-    ///
-    /// let file = b"MAST\x00\x00\x00\x02\x01\x01\x01\x05\xAA\xBB\x01"; // two bytes of block data, an empty map
-    /// let under = |bound| Forest::scan(file, &Facts::STAND_IN, ScanOptions::new().bound(bound));
-    /// let least = under(file.len())?.layout().advice_map_offset.0;
-    /// assert_eq!(least, 14);
-    /// assert!(under(least).is_ok());
-    ///
-    /// let refusal = under(least - 1).unwrap_err();
-    /// assert_eq!(refusal.kind, Kind::Budget); // 12 bytes are read, and one is left for two
-    /// assert_eq!(refusal.place, Place::Byte(ByteOffset(11))); // the length that says two
-    /// # Ok::<(), vekalumist::Refusal>(())
-    /// ```
+    /// The same under a bound of so many bytes.
     #[must_use]
     pub const fn bound(self, bytes: usize) -> ScanOptions {
         ScanOptions { bound: Some(bytes), ..self }

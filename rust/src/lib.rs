@@ -34,7 +34,6 @@
 //! - [`AdviceMap`] is the file's map over a lent table of keys; [`SlotTable`] is for many digests.
 //! - `write` makes a file of [`Parts`], the shortest one that shows them.
 //! - [`Facts`] are the format's magic, version, masks and node maximum, which the caller names.
-//! - [`ScanOptions`] are what a scan allows: files without hashes or not, and how many bytes it may take to read a file and allocate for it.
 //! - The functions below are the archive's own calls, one each: over any bytes, any layout, any table and any index.
 //!
 //! # Units

@@ -72,7 +72,7 @@ kinds! {
     Overflow 6 "OVERFLOW" "a length or an end is above 2^64 - 1",
     /// There are more nodes than the maximum.
     TooMany 7 "TOO-MANY" "more nodes than the maximum",
-    /// A read, or what a count says, is more than is left of the bound.
+    /// A count is above what the bound allows.
     Budget 8 "BUDGET" "more than the bound allows",
     /// There is no such node kind.
     Tag 9 "TAG" "no such node kind",

@@ -22,8 +22,8 @@ fn p10_has_the_known_layout() {
         layout.advice_map_offset = ByteOffset(73);
     });
     assert_eq!(scan(&file, &FACTS, true, None), Ok(layout));
-    assert_eq!(scan(&file, &FACTS, true, Some(73)), Ok(layout)); // 16 before the sections, then 1 of blocks, 24 of entries, 32 of digests
-    assert_eq!(scan(&file, &FACTS, true, Some(72)), no(Kind::Budget, byte(15)));
+    assert_eq!(scan(&file, &FACTS, true, Some(57)), Ok(layout)); // 1 of blocks, 24 of entries, 32 of digests
+    assert_eq!(scan(&file, &FACTS, true, Some(56)), no(Kind::Budget, byte(15)));
     assert_eq!(scan(&file, &FACTS, false, None), no(Kind::Hashless, byte(4)));
 }
 

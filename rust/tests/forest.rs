@@ -18,8 +18,8 @@ fn options_are_the_scan_s() {
     assert_eq!(of(HASHLESS), Ok(scanned(&file)));
     assert_eq!(of(ScanOptions::new()), no(Kind::Hashless, byte(4)));
     assert_eq!(of(ScanOptions::default()), of(ScanOptions::new()));
-    assert_eq!(of(HASHLESS.bound(73)), Ok(scanned(&file))); // the map's offset
-    assert_eq!(of(HASHLESS.bound(72)), no(Kind::Budget, byte(15)));
+    assert_eq!(of(HASHLESS.bound(57)), Ok(scanned(&file)));
+    assert_eq!(of(HASHLESS.bound(56)), no(Kind::Budget, byte(15)));
     assert_eq!(Forest::scan(&file, &Facts { hashless: 3, ..FACTS }, HASHLESS), no(Kind::Format, byte(0)));
 }
 

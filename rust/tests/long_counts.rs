@@ -137,8 +137,9 @@ fn a_refused_file_has_no_number() {
     bad[entries + 7] = 0x90;
     assert_eq!(scan_counting(&bad, &FACTS, true, None), no(Kind::Tag, byte(entries)));
     assert_eq!(scan_counting(&file, &FACTS, false, None), no(Kind::Hashless, byte(4)));
-    assert_eq!(scan_counting(&file, &FACTS, true, Some(map.0)).map(|scanned| scanned.long_counts), Ok(4));
-    assert_eq!(scan_counting(&file, &FACTS, true, Some(map.0 - 1)), no(Kind::Budget, byte(8 + 3 * 9 + 4)));
+    let sections = 3 + 2 * 8 + 32;
+    assert_eq!(scan_counting(&file, &FACTS, true, Some(sections)).map(|scanned| scanned.long_counts), Ok(4));
+    assert_eq!(scan_counting(&file, &FACTS, true, Some(sections - 1)), no(Kind::Budget, byte(8 + 3 * 9 + 4)));
     assert_eq!(walk_map(&file, map, &mut []), no(Kind::Room, byte(map.0 + 9)));
 }
 

@@ -39,8 +39,7 @@ fn every_number_is_met_at_its_place() {
         (6, byte(8), scan_of(&sum_above)),
         (7, byte(8), scan_of(&many)),
         (7, byte(8), scan(&p10, &Facts { max_nodes: 2, ..FACTS }, true, None).err()),
-        (8, byte(0), scan(&p10, &FACTS, true, Some(3)).err()),  // the magic has 4 bytes
-        (8, byte(8), scan(&p10, &FACTS, true, Some(41)).err()), // 31 are left for an external digest of 32
+        (8, byte(8), scan(&p10, &FACTS, true, Some(0)).err()),
         (9, byte(17), scan_of(&sample("bad-tag"))),
         (10, byte(25), scan_of(&changed(25, &[0, 0, 0, 0, 1]))), // a Block of 2^32
         (11, byte(9), scan_of(&changed(24, &[0x30]))),           // no External where the header says one

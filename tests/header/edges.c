@@ -1,8 +1,7 @@
-/* Of counts and scans: no byte outside a slice is read. The compiled reader takes eight bytes at once, so the slice lies against a page that may
- * not be touched, once before it and once behind it: a read outside ends the program. Each length of a count, with 0 to 20 bytes in the slice, at each
+/* Of counts: no byte outside a slice is read. The compiled reader takes eight bytes at once, so the slice lies against a page that may not be
+ * touched, once before it and once behind it: a read outside ends the program. Each length of a count, with 0 to 20 bytes in the slice, at each
  * place of it, and places past its end and near the last that there are. Value, length, place and whether the length is the shortest are held
- * to a reader that goes bit by bit. In every other round the slice is zero from some byte on, so that many of its counts are long. And a file
- * that is cut at each byte, under each bound, which is asked for a count's length before the count is read. */
+ * to a reader that goes bit by bit. In every other round the slice is zero from some byte on, so that many of its counts are long. */
 #define _DEFAULT_SOURCE
 #include <stdio.h>
 #include <string.h>
@@ -11,7 +10,7 @@
 #include "vekalumist.h"
 
 enum { MOST = 20, ROUNDS = 200 };
-static unsigned calls, longs, scans, wrong;
+static unsigned calls, longs, wrong;
 static uint64_t seed = 88172645463325252u;
 
 static uint8_t any(void) {
@@ -57,47 +56,6 @@ static void held(const uint8_t *s, size_t len, size_t at) {
     printf("%u of %u bytes: refusal %u\n", (unsigned)at, (unsigned)len, (unsigned)number);
 }
 
-static const veka_facts_t facts = {{'M', 'A', 'S', 'T'}, {0, 0, 2}, 2, 0xFC, (1 << 30) - 1};
-
-typedef struct {
-    uint64_t number, place;
-    veka_scanned_t scanned;
-} after_t;
-
-static after_t scan(const uint8_t *s, size_t len, veka_bound_t bound) {
-    after_t after;
-    memset(&after, 0xA5, sizeof after);
-    after.number = veka_scan(s, len, &facts, true, bound, &after.scanned, &after.place);
-    scans++;
-    return after;
-}
-
-/* A hashless file of one node, its counts in 3, 9, 8 and 2 bytes: it ends where its map would begin. At both edges the scan says what it says of a
- * copy that is followed by other bytes; of the whole file it is known. */
-static void hold_scans(uint8_t *pages, size_t page) {
-    static const uint8_t file[38] = {'M', 'A', 'S', 'T', 2, 0, 0, 2, 12, 0, 0, 0, 0, 0, 0, 0, 0, 0, 0, 0, 0x80, 0, 0, 0, 0, 0, 0, 0,
-                                     2,   0,   0,   0,   0, 0, 0, 0, 0,  0x60};
-    for (size_t len = 0; len <= sizeof file; len++)
-        for (uint64_t n = 0; n <= sizeof file + 10; n++) {
-            uint8_t copy[2 * sizeof file], *first = pages + page, *last = pages + 2 * page - len;
-            veka_bound_t bound = n == sizeof file + 10 ? veka_no_bound() : veka_bound(n);
-            after_t at[3];
-            memset(copy, 0xFF, sizeof copy);
-            memcpy(copy, file, len);
-            memcpy(first, file, len);
-            at[0] = scan(copy, len, bound);
-            at[1] = scan(first, len, bound);
-            memcpy(last, file, len);
-            at[2] = scan(last, len, bound);
-            if (memcmp(&at[0], &at[1], sizeof *at) == 0 && memcmp(&at[0], &at[2], sizeof *at) == 0 &&
-                (len < sizeof file || at[0].number == (n < sizeof file ? VEKA_BUDGET : VEKA_OK)))
-                continue;
-            wrong++;
-            printf("a scan of %u bytes under %u: refusals %u, %u, %u\n", (unsigned)len, (unsigned)n, (unsigned)at[0].number,
-                   (unsigned)at[1].number, (unsigned)at[2].number);
-        }
-}
-
 int main(void) {
     size_t page = (size_t)sysconf(_SC_PAGESIZE);
     uint8_t *pages = (uint8_t *)mmap(NULL, 3 * page, PROT_READ | PROT_WRITE, MAP_PRIVATE | MAP_ANONYMOUS, -1, 0);
@@ -118,7 +76,6 @@ int main(void) {
                     held(last, len, len + 1 + at);
                     held(last, len, SIZE_MAX - at);
                 }
-    hold_scans(pages, page);
-    printf("%u counts, %u of them long, %u scans, %u wrong\n", calls, longs, scans, wrong);
+    printf("%u counts, %u of them long, %u wrong\n", calls, longs, wrong);
     return wrong != 0;
 }

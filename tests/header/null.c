@@ -62,7 +62,6 @@ static void over_a_file(void) {
     TRY("read_count", 1, uint8_t, veka_read_count(none, 0, 0, INTO(veka_count_t), &after->place));
     TRY("flags", 1, uint8_t, veka_flags(none, 0, INTO(uint8_t), &after->place));
     TRY("scan", 1, uint8_t, veka_scan(none, 0, &facts, true, veka_no_bound(), INTO(veka_scanned_t), &after->place));
-    TRY("scan, bound", 1, uint8_t, veka_scan(none, 0, &facts, true, veka_bound(3), INTO(veka_scanned_t), &after->place));
     for (int k = 0; k < 2; k++) {
         const veka_layout_t *l = layouts[k];
         TRY("root", 1, uint8_t, veka_root(none, 0, l, 0, INTO(uint32_t), &after->place));
@@ -146,9 +145,7 @@ static void whole(void) {
     veka_key_order(keys, 2, order);
     p.order = order, p.order_len = 2;
     if (order[0] != 1 || order[1] != 0 || veka_write(&facts, &p, file, sizeof file, &size, &place) != VEKA_OK ||
-        veka_scan(file, size, &facts, true, veka_bound(19), &scanned, &place) != VEKA_BUDGET || place != 11 || /* the map is at 20 */
-        veka_scan(file, size, &facts, true, veka_bound(20), &scanned, &place) != VEKA_OK || layout->advice_map_offset != 20 ||
-        veka_scan(file, size, &facts, true, veka_bound(size), &scanned, &place) != VEKA_OK || layout->has_node_hashes || scanned.long_counts ||
+        veka_scan(file, size, &facts, true, veka_bound(8), &scanned, &place) != VEKA_OK || layout->has_node_hashes || scanned.long_counts ||
         veka_places(file, size, layout->advice_map_offset) != 2 ||
         veka_walk(file, size, layout->advice_map_offset, table, 2, &walked, &place) != VEKA_OK || walked.entries != 2 || walked.trailing ||
         walked.long_counts ||

@@ -1,4 +1,4 @@
-"""naive.py: a second reader of program files, slow and plain, written from documents 01 and 02; run.py holds what the program says against it.
+"""naive.py: a second reader of program files, slow and plain, written from document 01; run.py holds what the program says against it.
 
 Nothing here is shared with the program: Python sorts the map, a digest's slot is counted anew for every node, and each check is its definition.
 """
@@ -31,14 +31,10 @@ def refuse(wrong, name, place, unit="byte"):
         raise Refused(told(name, place, unit))
 
 
-def count_length(data, at):
-    """How many bytes the count at a place has, as its first one tells; 1 where that is not there."""
-    return ((data[at] & -data[at]).bit_length() or 9) if at < len(data) else 1
-
-
 def read_count(data, at):
     """The count at a place and the place after it."""
-    length = count_length(data, at)
+    first = data[at] if at < len(data) else 0
+    length = (first & -first).bit_length() or 9
     refuse(at + length > len(data), "SHORT", at)
     return int.from_bytes(data[at:at + length], "little") >> min(length, 8), at + length
 
@@ -62,59 +58,47 @@ def written(kind, numbers):
 
 
 def scan(data, options):
-    """The tests in the paper's order. Each byte is read once; a bound pays for what is read, and what is left of it limits every count."""
-    facts, at, left = options.facts, 0, options.bound
+    """The tests in the paper's order."""
+    facts = options.facts
 
-    def afford(number, size, place):
-        refuse(left is not None and number > left // size, "BUDGET", place)
-
-    def read(length):
-        nonlocal at, left
-        afford(length, 1, at)
-        refuse(length > len(data) - at, "SHORT", at)
-        at, left = at + length, None if left is None else left - length
-        return data[at - length:at]
-
-    def read_next():
-        """A count, which is one read."""
-        start = at
-        read(count_length(data, at))
-        return read_count(data, start)[0]
+    def budget(number, size, place):
+        refuse(options.bound is not None and number > options.bound // size, "BUDGET", place)
 
     refuse(bin(facts.hashless).count("1") != 1 or facts.hashless & facts.reserved or facts.maximum > 2**30, "FORMAT", 0)
-    refuse(read(4) != facts.magic, "MAGIC", 0)
-    flags, = read(1)
-    refuse(read(3) != facts.version, "VERSION", 5)
-    refuse(flags & facts.reserved, "FLAGS", 4)
-    hashless = bool(flags & facts.hashless)
+    refuse(len(data) < 4, "SHORT", 0)
+    refuse(data[:4] != facts.magic, "MAGIC", 0)
+    refuse(len(data) < 5, "SHORT", 4)
+    refuse(len(data) < 8, "SHORT", 5)
+    refuse(data[5:8] != facts.version, "VERSION", 5)
+    refuse(data[4] & facts.reserved, "FLAGS", 4)
+    hashless = bool(data[4] & facts.hashless)
     refuse(hashless and not options.hashless_allowed, "HASHLESS", 4)
-    internal, external_count_at = read_next(), at
-    external, roots_count_at = read_next(), at
+    internal, external_count_at = read_count(data, 8)
+    external, roots_count_at = read_count(data, external_count_at)
     nodes, hashes = internal + external, 0 if hashless else internal
     refuse(nodes > MOST, "OVERFLOW", 8)
     refuse(nodes > facts.maximum, "TOO-MANY", 8)
     for number, size in ((nodes, 8), (external, 32), (hashes, 32)):
-        afford(number, size, 8)
-    roots, roots_at = read_next(), at
-    afford(roots, 4, roots_count_at)
+        budget(number, size, 8)
+    roots, roots_at = read_count(data, roots_count_at)
+    budget(roots, 4, roots_count_at)
     refuse(4 * roots > MOST, "OVERFLOW", roots_count_at)
-    read(4 * roots)
-    length_at = at
-    block_length, block_at = read_next(), at
+    refuse(4 * roots > len(data) - roots_at, "SHORT", roots_at)
+    block_length, block_at = read_count(data, roots_at + 4 * roots)
     sections = block_length + 8 * nodes + 32 * external + 32 * hashes
-    refuse(sections > MOST, "OVERFLOW", length_at)
-    afford(sections, 1, length_at)
-    read(sections)
+    refuse(sections > MOST, "OVERFLOW", roots_at + 4 * roots)
+    budget(sections, 1, roots_at + 4 * roots)
+    refuse(sections > len(data) - block_at, "SHORT", block_at)
     entries_at, digests_at = block_at + block_length, block_at + block_length + 8 * nodes
     words = struct.unpack_from(f"<{nodes}Q", data, entries_at)
     entries = [read_entry(word, entries_at + 8 * i) for i, word in enumerate(words)]
     refuse(sum(kind == "External" for kind, _ in entries) != external, "EXTERNALS", external_count_at)
-    fields = {"bytes": len(data), "flags": flags, "node_count": nodes, "internal_node_count": internal, "external_node_count": external,
+    fields = {"bytes": len(data), "flags": data[4], "node_count": nodes, "internal_node_count": internal, "external_node_count": external,
               "roots_count": roots, "roots_offset": roots_at, "basic_block_offset": block_at, "basic_block_len": block_length,
               "node_entry_offset": entries_at, "external_digest_offset": digests_at,
               "node_hash_offset": None if hashless else digests_at + 32 * external, "advice_map_offset": block_at + sections}
     long_counts = longs((internal, 8, external_count_at), (external, external_count_at, roots_count_at), (roots, roots_count_at, roots_at),
-                        (block_length, length_at, block_at))
+                        (block_length, roots_at + 4 * roots, block_at))
     return SimpleNamespace(data=data, fields=fields, words=words, entries=entries, long_counts=long_counts, **fields)
 
 

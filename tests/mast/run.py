@@ -173,14 +173,6 @@ def damaged(dice, data):
                         data[:at] + data[at + 1:], data[:at] + bytes([changed]) + data[at + 1:], data[:at] + bytes([changed]) + data[at + 1:]])
 
 
-def least_bound(data):
-    """The least bound that serves a file, which is its map's offset; of a refused one the length."""
-    try:
-        return naive.scan(data, Options()).advice_map_offset
-    except naive.Refused:
-        return len(data)
-
-
 # The parts
 
 def try_samples(samples):
@@ -215,10 +207,6 @@ def try_made_files(samples):
                 hold_files(command, batch, options)
         for span in ((first, end), (0, end), (first, None)):
             hold_files("nodes", batch, Options(span=span))
-    for name, data in made[:80] + edges:
-        least = least_bound(data)
-        for bound in {least, max(least - 1, 0), len(data), dice.randrange(least + 9)}:
-            hold_files("layout", [(name, data)], Options(bound=bound))
     for command in COMMANDS:
         hold_files(command, other, Options(OTHER))
     pool = [data for _, data in samples + made + edges]
@@ -241,15 +229,10 @@ def try_options(samples):
     for command in COMMANDS:
         for change in changes:  # each word changed alone gives the answer of its own place
             hold_files(command, other, Options(OTHER._replace(**change)))
-        for name, data, least in (("p10.mast", p10, 73), ("p10-hashes.mast", hashed, 137)):  # their maps' offsets
-            for bound in range(least + 3) if command == "layout" else (least, least - 1, 8, 0, 2**64 - 1):
+        for name, data, least in (("p10.mast", p10, 57), ("p10-hashes.mast", hashed, 121)):  # the bytes of all sections together
+            for bound in (least, least - 1, 64, 63, 32, 31, 24, 23, 4, 3, 0, 2**64 - 1):
                 hold_files(command, [(name, data)], Options(bound=bound))
             hold_files(command, [(name, data)], Options(hashless_allowed=False))
-    hold_run(["layout", "--bound", "73", "p10.mast"], *naive.page("layout", [("p10.mast", p10)]))  # as with no bound
-    hold_run(["layout", "--bound", "72", "p10.mast"], b"refused 8 at 15\n", r"mast: p10.mast: refused 8 \(BUDGET\) at byte 15: .+\n", 1)
-    for name, data in samples:
-        for bound in {least_bound(data), least_bound(data) - 1, len(data)}:
-            hold_files("layout", [(name, data)], Options(bound=bound))
     for span in ((0, 1), (1, 3), (1, None), (0, 2), (0, 3), (2, 2), (0, 0), (3, 3), (3, None), (7, None), (0, 4), (3, 4), (2, 9), (9, 9), (0, 2**31)):
         hold_files("nodes", [("p10.mast", p10), ("p10-hashes.mast", hashed)], Options(span=span))
     for word in ("", ",", "4D415354", "4D415354,000002,02,FC", "4D41535,000002,02,FC,3", "4D415354,00002,02,FC,3", "4D415354,000002,2,FC,3",
@@ -270,7 +253,7 @@ def try_words(samples):
     page = naive.page("layout", [("p10.mast", data["p10.mast"])])
     in_folder([("--json", data["p10.mast"])])
     facts = facts_word(STAND_IN)
-    for line in ("--bound=73 p10.mast", "p10.mast --bound 73", "--bound 73 -- p10.mast", "-- --json", "./p10.mast", "-", "- --bound 73",
+    for line in ("--bound=57 p10.mast", "p10.mast --bound 57", "--bound 57 -- p10.mast", "-- --json", "./p10.mast", "-", "- --bound 57",
                  f"p10.mast --facts={facts.upper()}", f"--facts {facts.lower()} p10.mast"):
         hold_run(["layout", *line.split()], *page, given=data["p10.mast"])
     hold_run(["layout", "p10.mast", "-"], b"==> p10.mast <==\n" + page[0] + b"\n==> - <==\n" + page[0], "", 0, data["p10.mast"])

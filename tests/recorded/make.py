@@ -47,10 +47,8 @@ order of two words through veka_walk and veka_lookup. No call shows refusal_numb
 read_u64, row_place and digest_place by themselves: these are held by their contracts alone.
 
 Each answer has up to three sources, which have to agree: the published Rust, model.py, and the plain
-statement of document 01 in this file, as document 02 amends it: by request 2, which says when a count is
-long, and by request 5, by which the bound of a scan falls as bytes are read. Each of the three is asked
-with the falling bound; under the Rust it is the shim that reads which lets it fall. What is counted as a
-case's source is the first of the three that has an answer. A case that would come twice comes once.
+statement of document 01 in this file. What is counted as a case's source is the first of the three
+that has an answer. A case that would come twice comes once.
 """
 import functools
 import random
@@ -74,8 +72,7 @@ PLACE = 900  # the place before a call
 LINKED = 400  # what veka_version says
 rng = random.Random()
 
-# ---- document 01, with requests 2 on long counts and 5 on the falling bound: bytes and numbers to an answer, which is 0 and values, or a
-# refusal's number and its place
+# ---- document 01, and request 2 on long counts: bytes and numbers to an answer, which is 0 and values, or a refusal's number and its place
 
 
 def le(b):
@@ -176,72 +173,51 @@ def missing(s, at, n):
     return at + n - len(s)
 
 
-def count_size(s, at):
-    """How many bytes the read of a count is: what its first byte tells, or one where the file has none left."""
-    return 1 if is_short(s, at, 1) else 9 if s[at] == 0 else (s[at] & -s[at]).bit_length()
-
-
-BOUNDLESS = 2**99  # what is left of no bound: above all that a file can say, so that no line is at its limit
+def count_missing(s, at):
+    size = 1 if is_short(s, at, 1) else 9 if s[at] == 0 else (s[at] & -s[at]).bit_length()
+    return missing(s, at, size)
 
 
 def scan_rules(s, facts, allow, bound):
     """The scan's table, a line at a time: name, number, place, and by how much the rule is broken, which
     is 0 or less if it is not. Past a broken rule nothing is asked. The last line is the layout, and how many
-    counts are long. Every byte is read once, from 0 on, so that what is left of a bound is the bound less the
-    place. Two reads have no line of BUDGET, since it could never be met: that of the roots and that of the
-    sections, whose bytes are held to the same rest just before, as a number of roots and as a length."""
+    counts are long."""
     magic, version, (mask, reserved, maximum) = facts[:4], facts[4:7], facts[7:]
 
-    def beyond(at, count, size=1):
-        """By how much so many of a size are above what is left of the bound at a place."""
-        left = bound[1] - at if bound[0] else BOUNDLESS
-        assert left >= 0  # every read up to there was within the bound
-        return count - left // size
+    def beyond(size, count):
+        return count - bound[1] // size if bound[0] else 0
 
     yield "FORMAT", FORMAT, 0, int(bad_format(facts))
-    yield "BUDGET magic", BUDGET, 0, beyond(0, 4)
     yield "SHORT magic", SHORT, 0, missing(s, 0, 4)
     yield "MAGIC", MAGIC, 0, int(s[:4] != magic)
-    yield "BUDGET flags", BUDGET, 4, beyond(4, 1)
     yield "SHORT flags", SHORT, 4, missing(s, 4, 1)
-    yield "BUDGET version", BUDGET, 5, beyond(5, 3)
     yield "SHORT version", SHORT, 5, missing(s, 5, 3)
     yield "VERSION", VERSION, 5, int(s[5:8] != version)
     yield "FLAGS", FLAGS, 4, ones(s[4] & reserved)
     hashless = s[4] & mask != 0
     yield "HASHLESS", HASHLESS, 4, int(hashless and not allow)
-    size = count_size(s, 8)
-    yield "BUDGET internal count", BUDGET, 8, beyond(8, size)
-    yield "SHORT internal count", SHORT, 8, missing(s, 8, size)
+    yield "SHORT internal count", SHORT, 8, count_missing(s, 8)
     _, internal, _, external_at = read_count(s, 8)
-    size = count_size(s, external_at)
-    yield "BUDGET external count", BUDGET, external_at, beyond(external_at, size)
-    yield "SHORT external count", SHORT, external_at, missing(s, external_at, size)
+    yield "SHORT external count", SHORT, external_at, count_missing(s, external_at)
     _, external, _, roots_at = read_count(s, external_at)
     nodes = internal + external
     yield "OVERFLOW nodes", OVERFLOW, 8, over(nodes)
     yield "TOO-MANY", TOO_MANY, 8, nodes - maximum
-    yield "BUDGET nodes", BUDGET, 8, beyond(roots_at, nodes, 8)
-    yield "BUDGET externals", BUDGET, 8, beyond(roots_at, external, 32)
-    yield "BUDGET internals", BUDGET, 8, -1 if hashless else beyond(roots_at, internal, 32)
-    size = count_size(s, roots_at)
-    yield "BUDGET roots count", BUDGET, roots_at, beyond(roots_at, size)
-    yield "SHORT roots count", SHORT, roots_at, missing(s, roots_at, size)
+    yield "BUDGET nodes", BUDGET, 8, beyond(8, nodes)
+    yield "BUDGET externals", BUDGET, 8, beyond(32, external)
+    yield "BUDGET internals", BUDGET, 8, 0 if hashless else beyond(32, internal)
+    yield "SHORT roots count", SHORT, roots_at, count_missing(s, roots_at)
     _, roots, _, rows_at = read_count(s, roots_at)
-    yield "BUDGET roots", BUDGET, roots_at, beyond(rows_at, roots, 4)
+    yield "BUDGET roots", BUDGET, roots_at, beyond(4, roots)
     yield "OVERFLOW roots", OVERFLOW, roots_at, over(4 * roots)
-    assert beyond(rows_at, 4 * roots) <= 0  # the read of the roots
     yield "SHORT roots", SHORT, rows_at, missing(s, rows_at, 4 * roots)
     length_at = rows_at + 4 * roots
-    size = count_size(s, length_at)
-    yield "BUDGET block length", BUDGET, length_at, beyond(length_at, size)
-    yield "SHORT block length", SHORT, length_at, missing(s, length_at, size)
+    yield "SHORT block length", SHORT, length_at, count_missing(s, length_at)
     _, length, _, data_at = read_count(s, length_at)
     hashes = 0 if hashless else 32 * internal
     sections = length + 8 * nodes + 32 * external + hashes
     yield "OVERFLOW sections", OVERFLOW, length_at, over(sections)
-    yield "BUDGET sections", BUDGET, length_at, beyond(data_at, sections)
-    assert beyond(data_at, sections) <= 0  # the read of the sections
+    yield "BUDGET sections", BUDGET, length_at, beyond(1, sections)
     yield "SHORT sections", SHORT, data_at, missing(s, data_at, sections)
     entries_at = data_at + length
     places = range(entries_at, entries_at + 8 * nodes, 8)
@@ -705,8 +681,7 @@ def modelled(model):
     def scanned(s, *args):
         facts = type("Facts", (), dict(zip(("hashless", "reserved", "max_nodes"), args[7:10])))
         facts.magic, facts.version = bytes(args[:4]), bytes(args[4:7])
-        bound = (args[12], True) if args[11] else (None, False)  # with none nothing falls
-        lay = model.scan(s, args[10], *bound, f=facts)[1]
+        lay = model.scan(s, args[10], args[12] if args[11] else None, f=facts)[1]
         *fields, hashes, map_at = (getattr(lay, name) for name in model.FIELDS.split())
         return [0, *fields, *((0, 0) if hashes is None else (1, hashes)), map_at, long_ones()]
 
@@ -775,7 +750,7 @@ def hexed(s):
 
 def scan_command(s, args):
     magic, version, hashless, reserved = (bytes(args[a:b]).hex() for a, b in ((0, 4), (4, 7), (7, 8), (8, 9)))
-    bound = f"fall:{args[12]}" if args[11] else "-"
+    bound = str(args[12]) if args[11] else "-"
     return [f"format {magic} {version} {hashless} {reserved} {args[9]}", f"scan {args[10]} {bound} {hexed(s)}"]
 
 
@@ -1110,66 +1085,6 @@ def scan(s, allow=1, bound=None, facts=FACTS):
 
 
 P10 = [EXTERNAL, BLOCK, JOIN], [2], [0xAB]
-HEAD, HASHLESS_HEAD = "4d41535400000002", "4d41535402000002"
-
-# a file for each line of the scan's table, in its order, then two more and one that is taken: its bytes, the bound and the place
-SCAN_LINES = [
-    ("FORMAT", "", 0, 0),
-    ("BUDGET magic", "", 3, 0),
-    ("SHORT magic", "4d4153", 4, 0),
-    ("MAGIC", "61626364", 4, 0),
-    ("BUDGET flags", "4d415354", 4, 4),
-    ("SHORT flags", "4d415354", 5, 4),
-    ("BUDGET version", "4d41535400", 7, 5),
-    ("SHORT version", "4d41535400", 8, 5),
-    ("VERSION", "4d4153540078797a", 8, 5),
-    ("FLAGS", "4d41535480000002", 8, 4),
-    ("HASHLESS", HASHLESS_HEAD, 8, 4),
-    ("BUDGET internal count", HEAD + "02", 9, 8),
-    ("SHORT internal count", HEAD + "02", 10, 8),
-    ("BUDGET external count", HEAD + "03", 9, 9),
-    ("SHORT external count", HEAD + "03", 10, 9),
-    ("OVERFLOW nodes", HEAD + "00ffffffffffffffff03", 18, 8),
-    ("TOO-MANY", HEAD + "100000000801", 14, 8),
-    ("BUDGET nodes", HEAD + "0301", 17, 8),
-    ("BUDGET externals", HEAD + "0103", 41, 8),
-    ("BUDGET internals", HEAD + "0301", 41, 8),
-    ("BUDGET roots count", HEAD + "0101", 10, 10),
-    ("SHORT roots count", HEAD + "0101", 11, 10),
-    ("BUDGET roots", HEAD + "010103", 14, 10),
-    ("OVERFLOW roots", HEAD + "0101000000000000000040", None, 10),
-    ("SHORT roots", HEAD + "010103", 15, 11),
-    ("BUDGET block length", HEAD + "010101", 11, 11),
-    ("SHORT block length", HEAD + "010101", 12, 11),
-    ("OVERFLOW sections", HASHLESS_HEAD + "03010100ffffffffffffffff", TOP, 11),
-    ("BUDGET sections", HEAD + "01010103", 12, 11),
-    ("SHORT sections", HEAD + "01010103", 13, 12),
-    ("TAG", HASHLESS_HEAD + "030101010000000000000090", 20, 12),
-    ("PAYLOAD", HASHLESS_HEAD + "030101010000000001000020", 20, 12),
-    ("EXTERNALS", HASHLESS_HEAD + "030101010000000000000080", 20, 9),
-    ("MAGIC", "7778797a", 4, 0),
-    ("BUDGET roots", HEAD + "01010300000000", 14, 10),
-    (None, HASHLESS_HEAD + "030101010000000000000060", 20, None),
-]
-
-
-def scan_table_lines_under_a_falling_bound():
-    """SCAN_LINES, and each BUDGET of it once more with a byte more of bound, which takes the file past its line."""
-    for line, text, bound, place in SCAN_LINES:
-        s, allow = list(bytes.fromhex(text)), int(line != "HASHLESS")
-        facts = [*FACTS[:7], 0, *FACTS[8:]] if line == "FORMAT" else FACTS
-
-        def last(bound):
-            *_, rule = looked_at(s, [*facts, allow, *((0, 0) if bound is None else (1, bound))])
-            return rule
-
-        assert last(bound)[0] == line and place in (None, last(bound)[2])
-        scan(s, allow, bound, facts)
-        if last(bound)[1] == BUDGET:
-            assert last(bound + 1)[0] != line
-            scan(s, allow, bound + 1, facts)
-    lines = [line for line, *_ in looked_at(s, [*FACTS, 1, 1, bound])]  # of the file that is taken: all of them, in their order
-    assert lines == [*(line for line, *_ in SCAN_LINES[:-3]), None]
 
 
 def scan_bench_files():
@@ -1177,9 +1092,8 @@ def scan_bench_files():
     for flags in NO_HASHES, 0:
         s = forest(*P10, flags=flags)
         assert scan_layout(s, *FACTS, 1, 0, 0)[8:] == ([17, 41, 0, 0, 73, 0] if flags else [17, 41, 1, 73, 137, 0])
-        map_at = len(s) - 1
         for allow in 0, 1:
-            for bound in None, 0, map_at - 1, map_at, TOP:
+            for bound in None, 0, len(s), TOP:
                 scan(s, allow, bound)
         # of the digests, which no scan reads, every eighth byte and the last ones
         places = [at for at in range(len(s)) if at < 42 or at % 8 == 1 or at > len(s) - 4]
@@ -1188,7 +1102,7 @@ def scan_bench_files():
         for at in places:
             for damage in 255, 1 << rng.randrange(8):
                 bad = s[:at] + [s[at] ^ damage] + s[at + 1:]
-                scan(bad, rng.randrange(8) > 0, rng.choice((None, None, map_at, 400, TOP)))
+                scan(bad, rng.randrange(8) > 0, rng.choice((None, None, 200, 400, TOP)))
 
 
 def scan_headers():
@@ -1209,9 +1123,6 @@ def scan_headers():
         scan(good[:size])
         scan([0] * size)
         scan(good[:4] + [255] * (size - 4))
-    for size in 0, 3, 4, 5, 7, 8:  # cut by the file, by the bound and by both: the bound comes first
-        for bound in 3, 4, 5, 7, 8, 9:
-            scan(good[:size], bound=bound)
     for at in range(8):
         scan(good[:at] + [good[at] ^ 128] + good[at + 1:at + 1 + 8 * (at % 2)])
     for flags in range(0, 256, 5):
@@ -1228,7 +1139,7 @@ def scan_given_numbers():
     """What only the numbers of a call can say: flags that are neither 0 nor 1."""
     good = forest(*P10)
     for flag in 0, 1, 2, 255, 256, 2**32, 2**63, TOP:
-        for bound in 0, len(good) - 2, len(good) - 1:  # the map is at the last byte
+        for bound in 0, len(good) - 16, 400:
             case("veka_scan", *FACTS, 1, flag, bound, s=good, title=f"veka_scan, {scan_title}")
 
 
@@ -1238,24 +1149,12 @@ def scan_sizes():
         for size in range(1, 10):  # each count in each form, and each form cut
             longer = forest(*P10, flags=NO_HASHES, sizes=[size * (i == k) for i in range(4)])
             end = 11 + (4 + 1) * (k == 3) - (k < 3) * (2 - k) + size - 1
-            scan(longer, bound=rng.choice((None, len(longer) - 1)))
+            scan(longer, bound=rng.choice((None, 400)))
             scan(longer[:end])
             scan(longer[:end - 1])
             scan(longer[:end - size])
-    for k in range(4):
-        for size in range(1, 10):  # the same under a bound, with no nodes, whose floor would come before two of the counts
-            longer = forest(roots=[5] * (k == 3), sizes=[size * (i == k) for i in range(4)])
-            end = 8 + k + size + 4 * (k == 3)
-            for left in (end, end - 1) if size in (1, 2, 9) else (end,):
-                for bound in end - 1, end:
-                    scan(longer[:left], bound=bound)
-        for bound in end - size, end - size + 1:  # no byte left: a read of one
-            scan(longer[:end - size], bound=bound)
-    for bound in 10 + 8, 10 + 8 + 1:  # one node is within the bound, and the count after it is not
-        scan(forest([DYN], flags=NO_HASHES, sizes=[0, 0, 9, 0]), bound=bound)
     for a, b in ((TOP, 0), (TOP, 1), (1, TOP), (0, TOP), (2**63, 2**63), (2**63, 2**63 - 1), (TOP, TOP)):
-        end = 8 + shortest_len(a) + shortest_len(b)  # both counts use the bound up, if there is one
-        scan(forest(said=[a, b, 0, 0]), bound=rng.choice((None, end)))
+        scan(forest(said=[a, b, 0, 0]), bound=rng.choice((None, 0)))
     for maximum in 0, 1, 5, 2**30 - 1, 2**30:
         facts = [*FACTS[:9], maximum]
         for nodes in maximum, maximum + 1:
@@ -1266,12 +1165,11 @@ def scan_sizes():
     for k in 1, 2, 5:
         for size, kind, flags in (8, DYN, NO_HASHES), (32, EXTERNAL, NO_HASHES), (32, DYN, 0), (32, EXTERNAL, 0):
             s = forest([kind] * k, flags=flags)
-            map_at = len(s) - 1
-            for left in size * k - 1, size * k, size * k + size - 1, 8 * k - 1, 8 * k, map_at - 11, map_at - 10:  # past both counts
-                scan(s, bound=10 + left)
-                scan(s[:10], bound=10 + left)
-    scan(forest([DYN] * 3 + [EXTERNAL], flags=0), bound=10 + 95)
-    scan(forest([DYN] * 3 + [EXTERNAL], flags=0)[:10], bound=10 + 96)
+            for bound in size * k - 1, size * k, size * k + size - 1, 8 * k - 1, 8 * k, 40 * k - 1, 40 * k:
+                scan(s, bound=bound)
+                scan(s[:10], bound=bound)
+    scan(forest([DYN] * 3 + [EXTERNAL], flags=0), bound=95)
+    scan(forest([DYN] * 3 + [EXTERNAL], flags=0)[:10], bound=96)
 
 
 def scan_padded():
@@ -1289,13 +1187,13 @@ def scan_sections():
     """Roots and sections: their budgets, where they end, and lengths near 2 ** 64."""
     for k in 1, 2, 3:
         s = forest([DYN], list(range(k)), flags=NO_HASHES)
-        for left in 4 * k - 1, 4 * k, 4 * k + 3, 8:  # past the count of roots
-            scan(s, bound=11 + max(left, 8))
-            scan(forest([], list(range(k))), bound=11 + left)
+        for bound in 4 * k - 1, 4 * k, 4 * k + 3, 8:
+            scan(s, bound=max(bound, 8))
+            scan(forest([], list(range(k))), bound=bound)
     for k in range(11):  # one root, two roots: cut
         scan(forest([], [5, 6])[:k + 11])
-    for roots in (TOP - 19) // 4, (TOP - 19) // 4 + 1, 2**62 - 2, 2**62 - 1, 2**62, 2**62 + 1, 2**63, TOP:
-        for bound in None, 19, 100, TOP:  # the count ends at 19
+    for roots in 2**62 - 2, 2**62 - 1, 2**62, 2**62 + 1, 2**63, TOP:
+        for bound in None, 0, 100, TOP:
             scan(forest(said=[0, 0, roots, 0]), bound=bound)
     for rows, flags in ([], 0), ([DYN], 0), ([EXTERNAL, DYN], 0), ([EXTERNAL, DYN], NO_HASHES), ([EXTERNAL] * 2, 0):
         s = forest(rows, [0], flags=flags)
@@ -1304,20 +1202,20 @@ def scan_sections():
         for d in -25, -24, -23, -1, 0, 1, 2:  # their end, at 24 and more, and their sum beside 2 ** 64 - 1
             length = min(TOP - fixed + d, TOP)
             long = forest(rows, [0], flags=flags, said=[len(rows) - external, external, 1, length])
-            for bound in dict.fromkeys((rng.choice((None, TOP)), 100, *((None, TOP) if d < -1 else ()))):
-                scan(long, bound=bound)
+            scan(long, bound=rng.choice((None, TOP)))
+            scan(long, bound=100)
         scan(forest(rows, [0], flags=flags, said=[len(rows) - external, external, 1, TOP]), bound=200)
         for block in 1, 7:
             whole = forest(rows, [0], some(block), flags)
             scan(whole[:-1])
             scan(whole[:-2])
             scan(whole[:len(whole) - 1 - fixed])
-            for left in block - 1, block, fixed - 1, fixed, block + fixed - 1, block + fixed:  # past the block length
-                scan(whole, bound=16 + left)
+            for bound in block - 1, block, fixed - 1, fixed, block + fixed - 1, block + fixed:
+                scan(whole, bound=max(bound, 0))
     for block in 1, 2, 40:
-        for left in block - 1, block, block + 1:
-            scan(forest([], [], some(block)), bound=12 + left)
-            scan(forest([], [], some(block), NO_HASHES)[:-2], bound=12 + left)
+        for bound in block - 1, block, block + 1:
+            scan(forest([], [], some(block)), bound=bound)
+            scan(forest([], [], some(block), NO_HASHES)[:-2], bound=bound)
 
 
 def scan_entries():
@@ -1364,27 +1262,7 @@ def scan_random_files():
         if rng.random() < 0.4:
             at = rng.randrange(len(s))
             s = s[:at] + rng.choice(([], [rng.randrange(256)] + s[at + 1:], some(2) + s[at:]))
-        scan(s, rng.randrange(5) > 0, rng.choice((None, None, rng.randrange(300) % (len(s) + 9), max(len(s) - 1, 0))), facts)
-
-
-def scan_each_bound():
-    """One file under every bound up to its map and one above: each of its reads is refused in turn. It has no node, whose floor would come
-    before the reads that follow."""
-    s = forest([], [0], [0xAB], sizes=[2, 1, 3, 1])
-    for bound in range(len(s) + 1):
-        scan(s, bound=bound)
-
-
-def scan_bounds_at_the_map():
-    """A file of each layout that is asked about with a bound, and taken with none: it is taken from a bound of its map's place on."""
-    seen = set()
-    for _, _, given, s, _ in list(all_cases("veka_scan")):
-        if given[11]:
-            number, *lay = scan_layout(s, *given[:11], 0, 0)
-            if number == 0 and tuple(lay) not in seen:
-                seen.add(tuple(lay))
-                for bound in lay[11] - 1, lay[11]:
-                    scan(s, given[10], bound, given[:10])
+        scan(s, rng.randrange(5) > 0, rng.choice((None, None, rng.randrange(300), TOP)), facts)
 
 
 ALL_ROWS = "veka_slots, all rows", "veka_digest, all rows"
@@ -2246,28 +2124,9 @@ def well_covered():
     for _, _, given, s, _ in all_cases("veka_scan"):
         for line, _, _, excess in looked_at(s, given):
             excesses.setdefault(line, []).append(excess)
-    assert len(excesses.pop(None)) > 100 and len(excesses) == 33
+    assert len(excesses.pop(None)) > 100 and len(excesses) == 26
     for line, seen in excesses.items():
         assert sum(x > 0 for x in seen) > 1 and 1 in seen and (-3 if line == "OVERFLOW roots" else 0) in seen, line
-
-
-def bounds_well_covered():
-    """Each line of BUDGET refuses a file that one byte more of bound takes past it. Under a bound the answer is BUDGET or that of no bound,
-    and a file that is taken with none is taken exactly from a bound of its map's place on; each such layout is met there and one below."""
-    ends, near = {}, {}
-    for _, _, given, s, _ in all_cases("veka_scan"):
-        if given[11]:
-            *_, ends[tuple(given[:11]), tuple(s), given[12]] = looked_at(s, given)
-    past = {rule[0] for (asked, s, n), rule in ends.items() if rule[1] == BUDGET and ends.get((asked, s, n + 1), rule)[0] != rule[0]}
-    assert past == {line for line, *_ in SCAN_LINES if line and line.startswith("BUDGET")} and len(past) == 12
-    for (asked, s, n), (line, number, value, _) in ends.items():
-        with_none = scan_layout(list(s), *asked, 0, 0)
-        assert number == BUDGET or with_none == ([number, value] if line else [0, *value])
-        if with_none[0] == 0:
-            beyond_map = n - with_none[12]
-            assert (number == 0) == (beyond_map >= 0)
-            near.setdefault(tuple(with_none), set()).add(beyond_map)
-    assert len(near) > 60 and all({-1, 0} <= seen for seen in near.values())
 
 
 # where each call takes a place of the file or of the output
@@ -2466,10 +2325,10 @@ def read_again(text):
     return sections
 
 
-MAKERS = [bench, numbers, counts, counts_among_bytes, padded_counts, words, entries, scan_table_lines_under_a_falling_bound,
-          scan_bench_files, scan_headers, scan_given_numbers, scan_sizes, scan_padded, scan_sections, scan_entries, scan_many_entries,
-          scan_random_files, scan_each_bound, scan_bounds_at_the_map, rows_by_number, readers_by_index, slots, digests, node_checks,
-          maps, padded_maps, made_maps, largest_maps, map_places, rewrites, written_parts, claimed_orders, headers]
+MAKERS = [bench, numbers, counts, counts_among_bytes, padded_counts, words, entries, scan_bench_files, scan_headers, scan_given_numbers,
+          scan_sizes, scan_padded, scan_sections, scan_entries, scan_many_entries, scan_random_files, rows_by_number, readers_by_index,
+          slots, digests, node_checks, maps, padded_maps, made_maps, largest_maps, map_places, rewrites, written_parts, claimed_orders,
+          headers]
 
 
 def make_cases():
@@ -2520,7 +2379,6 @@ def main(oracle, model_folder):
     import model
     make_cases()
     well_covered()
-    bounds_well_covered()
     far_well_covered()
     sections = {title: by_file(cases[title]) for title in sorted(cases, key=first_call)}
     answers = {}

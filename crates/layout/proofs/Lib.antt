@@ -3,8 +3,5 @@ pub mod Entries
 pub mod Stages
 pub mod IndexLaws
 pub mod Split
-pub mod Charges
-pub mod Eased
-pub mod Falling
 pub mod Answers
 pub mod Accepted

@@ -8,15 +8,15 @@ use borrow.Author.Tests.{ltb-false}
 use lib.Count.{ones}
 use lib.Dec.{ltb, eqb}
 use lib.ListN.{length, get_or}
-use Rattle.wire.specs.Table.{Rule, Outcome, first_met, ◌>>=◌, NoneMet, At}
+use Rattle.wire.specs.Table.{Rule, first_met, NoneMet, At}
 use Rattle.wire.specs.Counts.{long_ones, counted, count_rule, count_outcome}
 use Rattle.wire.specs.declared.count.Count.{Count}
 use Rattle.wire.proofs.Tables.{none_parts}
 use Rattle.wire.proofs.Stages.{in_turn, in_the_end}
-use Rattle.layout.specs.Facts.{share, bad_format, left, over_budget, count_size}
+use Rattle.layout.specs.Facts.{share, bad_format}
 use Rattle.layout.specs.Scan.{Scanned, scan_rules, scan_outcome}
 use Rattle.layout.proofs.Tests.{or_right}
-use Rattle.layout.specs.Steps.{preamble_rules, mark_rules, charge_rules, size_rules, budget_rules, root_section_rules, section_rules, entry_section_rules, fixed_of, scanned_of, unpaid_or, entries_outcome, blocks_outcome, roots_outcome, sized_outcome, counts_outcome, stages_outcome}
+use Rattle.layout.specs.Steps.{preamble_rules, mark_rules, size_rules, budget_rules, root_section_rules, section_rules, entry_section_rules, fixed_of, scanned_of, entries_outcome, blocks_outcome, roots_outcome, sized_outcome, counts_outcome, stages_outcome}
 use Rattle.layout.specs.declared.facts.FormatFacts.{FormatFacts}
 use Rattle.layout.specs.declared.facts.Bound.{Bound}
 use Rattle.layout.specs.declared.scan.Head.{Head}
@@ -26,17 +26,6 @@ module _ (bound : Bound) (s : List ℕ) where
   -- the count at a place, as a stage hands it on
   abbrev count_at : ℕ → At Count
   count_at at = record { value = counted s at; next = at + (counted s at).len }
-
-  -- the rules of a count's read, and what follows, which may depend on what it says
-  abbrev count_on : ℕ → (At Count → List Rule) → List Rule
-  count_on at rest = charge_rules bound at s ++ ((count_rule s at ∷ []) ++ rest (count_at at))
-
-  count_split : (at : ℕ) (rest : At Count → List Rule) (v : At Count → Scanned) (k : At Count → Outcome Scanned) → ((c : At Count) → first_met (rest c) (v c) ≡ k c)
-      → first_met (count_on at rest) (v (count_at at)) ≡ unpaid_or bound at s (count_outcome s at >>= k)
-  unfolding count_outcome unpaid_or
-  count_split at rest v k h =
-      in_turn (charge_rules bound at s) tt (λ _. (count_rule s at ∷ []) ++ rest (count_at at)) (λ _. v (count_at at)) _
-      (λ _. in_turn (count_rule s at ∷ []) (count_at at) rest v k h)
 
   abbrev section_of : At Count → Section
   section_of c = record { count = c.value.value; at = record { 0 = c.next }; shortest = c.value.shortest }
@@ -67,36 +56,37 @@ module _ (bound : Bound) (s : List ℕ) where
     abbrev roots_on : At Count → List Rule
     roots_on c =
         root_section_rules bound h.roots_at.0 c.value.value c.next s
-        ++ count_on (start (section_of c)) (blocks_on (section_of c))
+        ++ ((count_rule s (start (section_of c)) ∷ []) ++ blocks_on (section_of c) (count_at (start (section_of c))))
 
     entries_split : (roots blocks : Section) → first_met (entries_on roots blocks) (scanned_of h roots blocks) ≡ entries_outcome h roots blocks s
     unfolding entries_outcome
     entries_split roots blocks = in_the_end (entries_on roots blocks) tt (λ _. scanned_of h roots blocks)
 
-    blocks_split : (roots : Section) → first_met (count_on (start roots) (blocks_on roots)) (scanned_of h roots (section_of (count_at (start roots)))) ≡ blocks_outcome bound h roots s
-    unfolding blocks_outcome
+    blocks_split : (roots : Section)
+        → first_met ((count_rule s (start roots) ∷ []) ++ blocks_on roots (count_at (start roots))) (scanned_of h roots (section_of (count_at (start roots))))
+        ≡ blocks_outcome bound h roots s
+    unfolding blocks_outcome count_outcome
     blocks_split roots =
-        count_split (start roots) (blocks_on roots) (λ c. scanned_of h roots (section_of c)) _
+        in_turn (count_rule s (start roots) ∷ []) (count_at (start roots)) (blocks_on roots) (λ c. scanned_of h roots (section_of c)) _
         (λ c. in_turn (section_rules bound (start roots) c.value.value c.next (fixed_of h) s) tt (λ _. entries_on roots (section_of c)) (λ _. scanned_of h roots (section_of c)) _
         (λ _. entries_split roots (section_of c)))
 
     abbrev scanned_from : At Count → Scanned
     scanned_from c = scanned_of h (section_of c) (section_of (count_at (start (section_of c))))
 
-    roots_split : first_met (count_on h.roots_at.0 roots_on) (scanned_from (count_at h.roots_at.0)) ≡ roots_outcome bound h s
-    unfolding roots_outcome
+    roots_split : first_met ((count_rule s h.roots_at.0 ∷ []) ++ roots_on (count_at h.roots_at.0)) (scanned_from (count_at h.roots_at.0)) ≡ roots_outcome bound h s
+    unfolding roots_outcome count_outcome
     roots_split =
-        count_split h.roots_at.0 roots_on scanned_from _
-        (λ c. in_turn (root_section_rules bound h.roots_at.0 c.value.value c.next s) tt (λ _. count_on (start (section_of c)) (blocks_on (section_of c))) (λ _. scanned_from c) _
+        in_turn (count_rule s h.roots_at.0 ∷ []) (count_at h.roots_at.0) roots_on scanned_from _
+        (λ c. in_turn (root_section_rules bound h.roots_at.0 c.value.value c.next s) tt
+        (λ _. (count_rule s (start (section_of c)) ∷ []) ++ blocks_on (section_of c) (count_at (start (section_of c)))) (λ _. scanned_from c) _
         (λ _. blocks_split (section_of c)))
 
   module _ (f : FormatFacts) (hashless : Bool) where
-    -- the node counts are within the bound, and then the roots'
-    abbrev bound_on : Head → List Rule
-    bound_on h = budget_rules bound h.roots_at.0 h.hashless h.internal h.external ++ count_on h.roots_at.0 (roots_on h)
-
     abbrev sized_on : Head → List Rule
-    sized_on h = size_rules f h.internal h.external ++ bound_on h
+    sized_on h =
+        size_rules f h.internal h.external
+        ++ (budget_rules bound h.hashless h.internal h.external ++ ((count_rule s h.roots_at.0 ∷ []) ++ roots_on h (count_at h.roots_at.0)))
 
     abbrev scanned_at : Head → Scanned
     scanned_at h = scanned_from h (count_at h.roots_at.0)
@@ -104,21 +94,22 @@ module _ (bound : Bound) (s : List ℕ) where
     sized_split : (h : Head) → first_met (sized_on h) (scanned_at h) ≡ sized_outcome f bound h s
     unfolding sized_outcome
     sized_split h =
-        in_turn (size_rules f h.internal h.external) tt (λ _. bound_on h) (λ _. scanned_at h) _
-        (λ _. in_turn (budget_rules bound h.roots_at.0 h.hashless h.internal h.external) tt (λ _. count_on h.roots_at.0 (roots_on h)) (λ _. scanned_at h) _
+        in_turn (size_rules f h.internal h.external) tt
+        (λ _. budget_rules bound h.hashless h.internal h.external ++ ((count_rule s h.roots_at.0 ∷ []) ++ roots_on h (count_at h.roots_at.0))) (λ _. scanned_at h) _
+        (λ _. in_turn (budget_rules bound h.hashless h.internal h.external) tt (λ _. (count_rule s h.roots_at.0 ∷ []) ++ roots_on h (count_at h.roots_at.0)) (λ _. scanned_at h) _
         (λ _. roots_split h))
 
     abbrev external_on : At Count → List Rule
-    external_on i = count_on i.next (λ e. sized_on (head_of hashless i e))
+    external_on i = (count_rule s i.next ∷ []) ++ sized_on (head_of hashless i (count_at i.next))
 
     abbrev scanned_by : At Count → Scanned
     scanned_by i = scanned_at (head_of hashless i (count_at i.next))
 
-    counts_split : first_met (count_on 8 external_on) (scanned_by (count_at 8)) ≡ counts_outcome f bound hashless s
-    unfolding counts_outcome
+    counts_split : first_met ((count_rule s 8 ∷ []) ++ external_on (count_at 8)) (scanned_by (count_at 8)) ≡ counts_outcome f bound hashless s
+    unfolding counts_outcome count_outcome
     counts_split =
-        count_split 8 external_on scanned_by _
-        (λ i. count_split i.next (λ e. sized_on (head_of hashless i e)) (λ e. scanned_at (head_of hashless i e)) _
+        in_turn (count_rule s 8 ∷ []) (count_at 8) external_on scanned_by _
+        (λ i. in_turn (count_rule s i.next ∷ []) (count_at i.next) (λ e. sized_on (head_of hashless i e)) (λ e. scanned_at (head_of hashless i e)) _
         (λ e. sized_split (head_of hashless i e)))
 
 module _ (f : FormatFacts) (s : List ℕ) (allow : Bool) (bound : Bound) where
@@ -126,10 +117,10 @@ module _ (f : FormatFacts) (s : List ℕ) (allow : Bool) (bound : Bound) where
   hashless_of = share (get_or s 4 0) f.hashless
 
   abbrev counts_on : List Rule
-  counts_on = count_on bound s 8 (external_on bound s f hashless_of)
+  counts_on = (count_rule s 8 ∷ []) ++ external_on bound s f hashless_of (count_at bound s 8)
 
   -- the table is its segments, one after the other
-  pub segments : scan_rules f s allow bound ≡ preamble_rules f bound s ++ (mark_rules f allow s ++ counts_on)
+  pub segments : scan_rules f s allow bound ≡ preamble_rules f s ++ (mark_rules f allow s ++ counts_on)
   unfolding scan_rules preamble_rules mark_rules size_rules budget_rules root_section_rules section_rules entry_section_rules
   segments = refl
 
@@ -138,7 +129,7 @@ module _ (f : FormatFacts) (s : List ℕ) (allow : Bool) (bound : Bound) where
   split =
       let v = scanned_by bound s f hashless_of (count_at bound s 8) in
       rw segments
-      (in_turn (preamble_rules f bound s) tt (λ _. mark_rules f allow s ++ counts_on) (λ _. v) _
+      (in_turn (preamble_rules f s) tt (λ _. mark_rules f allow s ++ counts_on) (λ _. v) _
       (λ _. in_turn (mark_rules f allow s) tt (λ _. counts_on) (λ _. v) _
       (λ _. counts_split bound s f hashless_of)))
 
@@ -150,53 +141,41 @@ module _ (f : FormatFacts) (s : List ℕ) (allow : Bool) (bound : Bound) where
     abbrev roots : At Count
     roots = count_at bound s head.roots_at.0
 
-    -- where the block length starts
-    abbrev length_at : ℕ
-    length_at = start bound s head (section_of bound s roots)
-
     abbrev blocks : At Count
-    blocks = count_at bound s length_at
+    blocks = count_at bound s (start bound s head (section_of bound s roots))
 
-    after_preamble : NoneMet (preamble_rules f bound s) × NoneMet (mark_rules f allow s ++ counts_on)
-    after_preamble = none_parts (preamble_rules f bound s) (mark_rules f allow s ++ counts_on) (rw segments at unmet)
+    after_preamble : NoneMet (preamble_rules f s) × NoneMet (mark_rules f allow s ++ counts_on)
+    after_preamble = none_parts (preamble_rules f s) (mark_rules f allow s ++ counts_on) (rw segments at unmet)
 
     rest : NoneMet counts_on
     rest = (none_parts (mark_rules f allow s) counts_on after_preamble.1).1
 
-    after_sizes : NoneMet (size_rules f head.internal head.external) × NoneMet (bound_on bound s f hashless_of head)
-    after_sizes = none_parts (size_rules f head.internal head.external) _ rest.1.1.1.1
+    after_sizes : NoneMet (size_rules f head.internal head.external) × NoneMet (budget_rules bound hashless_of head.internal head.external ++ ((count_rule s head.roots_at.0 ∷ []) ++ roots_on bound s head roots))
+    after_sizes = none_parts (size_rules f head.internal head.external) _ rest.1.1
 
-    after_budgets : NoneMet (count_on bound s head.roots_at.0 (roots_on bound s head))
-    after_budgets = (none_parts (budget_rules bound head.roots_at.0 hashless_of head.internal head.external) _ after_sizes.1).1
+    after_budgets : NoneMet ((count_rule s head.roots_at.0 ∷ []) ++ roots_on bound s head roots)
+    after_budgets = (none_parts (budget_rules bound hashless_of head.internal head.external) _ after_sizes.1).1
 
     after_roots : NoneMet (root_section_rules bound head.roots_at.0 roots.value.value roots.next s)
-        × NoneMet (count_on bound s length_at (blocks_on bound s head (section_of bound s roots)))
-    after_roots = none_parts (root_section_rules bound head.roots_at.0 roots.value.value roots.next s) _ after_budgets.1.1
+        × NoneMet ((count_rule s (start bound s head (section_of bound s roots)) ∷ []) ++ blocks_on bound s head (section_of bound s roots) blocks)
+    after_roots = none_parts (root_section_rules bound head.roots_at.0 roots.value.value roots.next s) _ after_budgets.1
 
-    after_sections : NoneMet (section_rules bound length_at blocks.value.value blocks.next (fixed_of head) s)
+    after_sections : NoneMet (section_rules bound (start bound s head (section_of bound s roots)) blocks.value.value blocks.next (fixed_of head) s)
         × NoneMet (entries_on bound s head (section_of bound s roots) (section_of bound s blocks))
-    after_sections = none_parts (section_rules bound length_at blocks.value.value blocks.next (fixed_of head) s) _ after_roots.1.1.1
+    after_sections = none_parts (section_rules bound (start bound s head (section_of bound s roots)) blocks.value.value blocks.next (fixed_of head) s) _ after_roots.1.1
 
     -- what each segment's unmet rules say
     pub count_1 : (count_rule s 8).met ≡ false
-    count_1 = rest.1.0
+    count_1 = rest.0
 
     pub count_2 : (count_rule s (8 + (counted s 8).len)).met ≡ false
-    count_2 = rest.1.1.1.0
+    count_2 = rest.1.0
 
     pub count_3 : (count_rule s head.roots_at.0).met ≡ false
-    count_3 = after_budgets.1.0
+    count_3 = after_budgets.0
 
-    pub count_4 : (count_rule s length_at).met ≡ false
-    count_4 = after_roots.1.1.0
-
-    -- the block length and the sections are paid for
-    pub count_4_paid : over_budget (left bound length_at) 1 (count_size s length_at) ≡ false
-    count_4_paid = after_roots.1.0
-
-    pub sections_paid : over_budget (left bound blocks.next) 1 (blocks.value.value + fixed_of head) ≡ false
-    unfolding section_rules
-    sections_paid = after_sections.0.1.0
+    pub count_4 : (count_rule s (start bound s head (section_of bound s roots))).met ≡ false
+    count_4 = after_roots.1.0
 
     pub maximum : (f.max_nodes ≤ 2 ^ 30) × (head.internal + head.external ≤ f.max_nodes)
     unfolding preamble_rules size_rules bad_format
@@ -207,11 +186,11 @@ module _ (f : FormatFacts) (s : List ℕ) (allow : Bool) (bound : Bound) where
 
     pub roots_there : roots.next + 4 * roots.value.value ≤ length s
     unfolding root_section_rules
-    roots_there = ltb-false (length s) (roots.next + 4 * roots.value.value) after_roots.0.1.1.1.0
+    roots_there = ltb-false (length s) (roots.next + 4 * roots.value.value) after_roots.0.1.1.0
 
     pub sections_there : blocks.next + (blocks.value.value + fixed_of head) ≤ length s
     unfolding section_rules
-    sections_there = ltb-false (length s) (blocks.next + (blocks.value.value + fixed_of head)) after_sections.0.1.1.1.0
+    sections_there = ltb-false (length s) (blocks.next + (blocks.value.value + fixed_of head)) after_sections.0.1.1.0
 
     pub entries_clean : NoneMet (entries_on bound s head (section_of bound s roots) (section_of bound s blocks))
     entries_clean = after_sections.1

@@ -1,7 +1,6 @@
 pub mod Facts
 pub mod Given
 pub mod Scan
-pub mod Unbound
 pub mod Steps
 pub mod Index
 pub mod Shown

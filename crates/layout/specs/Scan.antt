@@ -10,7 +10,7 @@ use Rattle.wire.specs.Rows.{numbers_of, differs}
 use Rattle.wire.specs.declared.count.Count.{Count}
 use Rattle.info.specs.Node.{is_external}
 use Rattle.info.specs.Entry.{entry_of, decode_rules}
-use Rattle.layout.specs.Facts.{share, bad_format, left, over_budget, budget_rule, count_size, hash_bytes}
+use Rattle.layout.specs.Facts.{share, bad_format, over_budget, hash_bytes}
 use Rattle.layout.specs.declared.facts.FormatFacts.{FormatFacts}
 use Rattle.layout.specs.declared.facts.Bound.{Bound}
 use Rattle.layout.specs.declared.forest.HashSection.{HashSection}
@@ -104,44 +104,32 @@ module _ (f : FormatFacts) (s : List ℕ) where
   head_counts = internal ∷ external ∷ roots ∷ blocks ∷ []
 
   -- ---- the table
-  -- Every byte is read once, from the first on: so at a place what is left of the bound is the bound less the place. A read asks first whether that
-  -- pays for it, and then whether it is all there. Two of these lines are never met, those of the roots and of the sections: the lines on how many
-  -- there are have asked for the same bytes.
 
   module _ (allow : Bool) (bound : Bound) where
     unfoldable pub scan_rules : List Rule
     scan_rules =
         rule FORMAT 0 (bad_format f)
-        ∷ budget_rule bound 0 4
         ∷ short_rule s 0 4
         ∷ rule MAGIC 0 (differs s 0 f.magic 4)
-        ∷ budget_rule bound 4 1
         ∷ short_rule s 4 1
-        ∷ budget_rule bound 5 3
         ∷ short_rule s 5 3
         ∷ rule VERSION 5 (differs s 5 f.version 3)
         ∷ rule FLAGS 4 (share flags_of f.reserved)
         ∷ rule HASHLESS 4 (is_hashless && not allow)
-        ∷ budget_rule bound 8 (count_size s 8)
         ∷ count_rule s 8
-        ∷ budget_rule bound external_at (count_size s external_at)
         ∷ count_rule s external_at
         ∷ rule OVERFLOW 8 (over nodes)
         ∷ rule TOO-MANY 8 (ltb f.max_nodes nodes)
-        ∷ rule BUDGET 8 (over_budget (left bound roots_at) 8 nodes)
-        ∷ rule BUDGET 8 (over_budget (left bound roots_at) 32 external.value)
-        ∷ rule BUDGET 8 (not is_hashless && over_budget (left bound roots_at) 32 internal.value)
-        ∷ budget_rule bound roots_at (count_size s roots_at)
+        ∷ rule BUDGET 8 (over_budget bound 8 nodes)
+        ∷ rule BUDGET 8 (over_budget bound 32 external.value)
+        ∷ rule BUDGET 8 (not is_hashless && over_budget bound 32 internal.value)
         ∷ count_rule s roots_at
-        ∷ rule BUDGET roots_at (over_budget (left bound root_rows) 4 roots.value)
+        ∷ rule BUDGET roots_at (over_budget bound 4 roots.value)
         ∷ rule OVERFLOW roots_at (over (4 * roots.value))
-        ∷ budget_rule bound root_rows (4 * roots.value)
         ∷ short_rule s root_rows (4 * roots.value)
-        ∷ budget_rule bound blocks_at (count_size s blocks_at)
         ∷ count_rule s blocks_at
         ∷ rule OVERFLOW blocks_at (over section_bytes)
-        ∷ rule BUDGET blocks_at (over_budget (left bound block_data) 1 section_bytes)
-        ∷ budget_rule bound block_data section_bytes
+        ∷ rule BUDGET blocks_at (over_budget bound 1 section_bytes)
         ∷ short_rule s block_data section_bytes
         ∷ words_rules 8 entries_at words
         ++ (rule EXTERNALS external_at (not (eqb (externals words) external.value)) ∷ [])

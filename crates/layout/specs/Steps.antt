@@ -7,7 +7,7 @@ use Rattle.wire.specs.Refusals.{SHORT, MAGIC, VERSION, FLAGS, HASHLESS, OVERFLOW
 use Rattle.wire.specs.Le.{short_rule, over}
 use Rattle.wire.specs.Counts.{count_outcome}
 use Rattle.wire.specs.Rows.{numbers_of, differs}
-use Rattle.layout.specs.Facts.{share, bad_format, left, over_budget, budget_rule, count_size, hash_bytes}
+use Rattle.layout.specs.Facts.{share, bad_format, over_budget, hash_bytes}
 use Rattle.layout.specs.Scan.{Scanned, words_rules, externals, section_at}
 use Rattle.layout.specs.declared.facts.FormatFacts.{FormatFacts}
 use Rattle.layout.specs.declared.facts.Bound.{Bound}
@@ -17,21 +17,14 @@ use Rattle.layout.specs.declared.scan.Section.{Section}
 
 -- ---- the segments
 
-abbrev pub rest_rules : Bound → List ℕ → List Rule
-rest_rules bound s =
-    budget_rule bound 4 1
-    ∷ rule SHORT 4 (ltb (length s) 5)
-    ∷ budget_rule bound 5 3
-    ∷ rule SHORT 5 (ltb (length s) 8)
-    ∷ []
-
-unfoldable pub preamble_rules : FormatFacts → Bound → List ℕ → List Rule
-preamble_rules f bound s =
+unfoldable pub preamble_rules : FormatFacts → List ℕ → List Rule
+preamble_rules f s =
     rule FORMAT 0 (bad_format f)
-    ∷ budget_rule bound 0 4
     ∷ rule SHORT 0 (ltb (length s) 4)
     ∷ rule MAGIC 0 (differs s 0 f.magic 4)
-    ∷ rest_rules bound s
+    ∷ rule SHORT 4 (ltb (length s) 5)
+    ∷ rule SHORT 5 (ltb (length s) 8)
+    ∷ []
 
 unfoldable pub mark_rules : FormatFacts → Bool → List ℕ → List Rule
 mark_rules f allow s =
@@ -46,30 +39,24 @@ size_rules f internal external =
     ∷ rule TOO-MANY 8 (ltb f.max_nodes (internal + external))
     ∷ []
 
--- a count's read is paid for
-abbrev pub charge_rules : Bound → ℕ → List ℕ → List Rule
-charge_rules bound at s = budget_rule bound at (count_size s at) ∷ []
-
-unfoldable pub budget_rules : Bound → ℕ → Bool → ℕ → ℕ → List Rule
-budget_rules bound at hashless internal external =
-    rule BUDGET 8 (over_budget (left bound at) 8 (internal + external))
-    ∷ rule BUDGET 8 (over_budget (left bound at) 32 external)
-    ∷ rule BUDGET 8 (not hashless && over_budget (left bound at) 32 internal)
+unfoldable pub budget_rules : Bound → Bool → ℕ → ℕ → List Rule
+budget_rules bound hashless internal external =
+    rule BUDGET 8 (over_budget bound 8 (internal + external))
+    ∷ rule BUDGET 8 (over_budget bound 32 external)
+    ∷ rule BUDGET 8 (not hashless && over_budget bound 32 internal)
     ∷ []
 
 unfoldable pub root_section_rules : Bound → ℕ → ℕ → ℕ → List ℕ → List Rule
 root_section_rules bound start count at s =
-    rule BUDGET start (over_budget (left bound at) 4 count)
+    rule BUDGET start (over_budget bound 4 count)
     ∷ rule OVERFLOW start (over (4 * count))
-    ∷ budget_rule bound at (4 * count)
     ∷ short_rule s at (4 * count)
     ∷ []
 
 unfoldable pub section_rules : Bound → ℕ → ℕ → ℕ → ℕ → List ℕ → List Rule
 section_rules bound start count at fixed s =
     rule OVERFLOW start (over (count + fixed))
-    ∷ rule BUDGET start (over_budget (left bound at) 1 (count + fixed))
-    ∷ budget_rule bound at (count + fixed)
+    ∷ rule BUDGET start (over_budget bound 1 (count + fixed))
     ∷ short_rule s at (count + fixed)
     ∷ []
 
@@ -114,10 +101,6 @@ scanned_of h roots blocks = record { layout = layout_of h roots blocks; long = l
 
 -- ---- the stages in a row
 
--- BUDGET where a count's read is not paid for, else what comes after
-unfoldable pub unpaid_or : Bound → ℕ → List ℕ → Outcome Scanned → Outcome Scanned
-unpaid_or bound at s next = checked (charge_rules bound at s) >>= (λ _. next)
-
 unfoldable pub entries_outcome : Head → Section → Section → List ℕ → Outcome Scanned
 entries_outcome h roots blocks s =
     checked (entry_section_rules (blocks.at.0 + blocks.count) (h.internal + h.external) h.external h.external_at.0 s)
@@ -126,30 +109,26 @@ entries_outcome h roots blocks s =
 unfoldable pub blocks_outcome : Bound → Head → Section → List ℕ → Outcome Scanned
 blocks_outcome bound h roots s =
     let start = roots.at.0 + 4 * roots.count in
-    unpaid_or bound start s
-    (count_outcome s start
+    count_outcome s start
     >>= (λ c. checked (section_rules bound start c.value.value c.next (fixed_of h) s)
-    >>= (λ _. entries_outcome h roots (record { count = c.value.value; at = record { 0 = c.next }; shortest = c.value.shortest }) s)))
+    >>= (λ _. entries_outcome h roots (record { count = c.value.value; at = record { 0 = c.next }; shortest = c.value.shortest }) s))
 
 unfoldable pub roots_outcome : Bound → Head → List ℕ → Outcome Scanned
 roots_outcome bound h s =
-    unpaid_or bound h.roots_at.0 s
-    (count_outcome s h.roots_at.0
+    count_outcome s h.roots_at.0
     >>= (λ c. checked (root_section_rules bound h.roots_at.0 c.value.value c.next s)
-    >>= (λ _. blocks_outcome bound h (record { count = c.value.value; at = record { 0 = c.next }; shortest = c.value.shortest }) s)))
+    >>= (λ _. blocks_outcome bound h (record { count = c.value.value; at = record { 0 = c.next }; shortest = c.value.shortest }) s))
 
 unfoldable pub sized_outcome : FormatFacts → Bound → Head → List ℕ → Outcome Scanned
 sized_outcome f bound h s =
     checked (size_rules f h.internal h.external)
-    >>= (λ _. checked (budget_rules bound h.roots_at.0 h.hashless h.internal h.external)
+    >>= (λ _. checked (budget_rules bound h.hashless h.internal h.external)
     >>= (λ _. roots_outcome bound h s))
 
 unfoldable pub counts_outcome : FormatFacts → Bound → Bool → List ℕ → Outcome Scanned
 counts_outcome f bound hashless s =
-    unpaid_or bound 8 s
-    (count_outcome s 8
-    >>= (λ i. unpaid_or bound i.next s
-    (count_outcome s i.next
+    count_outcome s 8
+    >>= (λ i. count_outcome s i.next
     >>= (λ e.
     sized_outcome f bound
     (record {
@@ -161,10 +140,10 @@ counts_outcome f bound hashless s =
       external_at = record { 0 = i.next };
       roots_at = record { 0 = e.next };
     })
-    s))))
+    s))
 
 unfoldable pub stages_outcome : FormatFacts → Bool → Bound → List ℕ → Outcome Scanned
 stages_outcome f allow bound s =
-    checked (preamble_rules f bound s)
+    checked (preamble_rules f s)
     >>= (λ _. checked (mark_rules f allow s)
     >>= (λ _. counts_outcome f bound (share (get_or s 4 0) f.hashless) s))

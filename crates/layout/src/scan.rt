@@ -1,17 +1,16 @@
 // The scan: stages of a few tests each, in the table's order (specs/Scan.antt). A stage promises its
 // segment of the table; the functions that run stages promise the stages in a row (specs/Steps.antt).
 ghost use Rattle.std.specs.Prelude.{◌≡◌, ◌+◌, ◌*◌, ◌^◌, ◌≤◌, ◌<◌, length};
-ghost use Rattle.wire.specs.Table.{refused, checked};
-ghost use Rattle.wire.specs.Refusals.{number_of};
+ghost use Rattle.wire.specs.Table.{checked};
 ghost use Rattle.wire.specs.Rows.{differs};
 ghost use Rattle.layout.specs.Facts.{hash_bytes};
 ghost use Rattle.layout.specs.Given.{Given};
 ghost use Rattle.layout.specs.Scan.{section_at, scan_outcome};
-ghost use Rattle.layout.specs.Steps.{rest_rules, preamble_rules, mark_rules, charge_rules, size_rules, budget_rules, root_section_rules, section_rules, entry_section_rules};
-ghost use Rattle.layout.specs.Steps.{fixed_of, layout_of, long_of, unpaid_or, counts_outcome, sized_outcome, roots_outcome, blocks_outcome, entries_outcome};
+ghost use Rattle.layout.specs.Steps.{preamble_rules, mark_rules, size_rules, budget_rules, root_section_rules, section_rules, entry_section_rules};
+ghost use Rattle.layout.specs.Steps.{fixed_of, layout_of, long_of, counts_outcome, sized_outcome, roots_outcome, blocks_outcome, entries_outcome};
 ghost use Rattle.layout.specs.Shown.{shown_scan, shown_check};
 
-use crate::facts::{Bound, FormatFacts, are_given, bad_format, count_unpaid, over_budget};
+use crate::facts::{Bound, FormatFacts, are_given, bad_format, over_budget};
 use crate::forest::{ForestLayout, HashSection};
 use rows::{EntryPass, read_entries};
 use wire::count::{CountRead, long_one, read_count};
@@ -72,36 +71,13 @@ fn wrong_version(v: [u8; 3], s: &[u8]) -> bool
     (s[5] != v[0]) | (s[6] != v[1]) | (s[7] != v[2])
 }
 
-// That flags and version are paid for and whole, read by read.
-fn check_rest(bound: Bound, s: &[u8]) -> Check
-    ensures { shown_check result ≡ checked (rest_rules bound s.now) }
-{
-    if over_budget(bound, ByteOffset(4), 1, 1) {
-        return Check::Refused(Refusal::Budget, ByteOffset(4));
-    }
-    if s.len() < 5 {
-        return Check::Refused(Refusal::Short, ByteOffset(4));
-    }
-    if over_budget(bound, ByteOffset(5), 1, 3) {
-        return Check::Refused(Refusal::Budget, ByteOffset(5));
-    }
-    if s.len() < 8 {
-        return Check::Refused(Refusal::Short, ByteOffset(5));
-    }
-    Check::Pass
-}
-
-// FORMAT and the header's reads. Where all 8 bytes are there and paid for, as of most files, those after
-// the magic are tested together.
-fn check_preamble(f: FormatFacts, bound: Bound, s: &[u8]) -> Check
-    ensures { shown_check result ≡ checked (preamble_rules f bound s.now) }
+// FORMAT and magic, and that flags and version are whole.
+fn check_preamble(f: FormatFacts, s: &[u8]) -> Check
+    ensures { shown_check result ≡ checked (preamble_rules f s.now) }
 {
     let m = f.magic;
     if bad_format(f) {
         return Check::Refused(Refusal::Format, ByteOffset(0));
-    }
-    if over_budget(bound, ByteOffset(0), 1, 4) {
-        return Check::Refused(Refusal::Budget, ByteOffset(0));
     }
     if s.len() < 4 {
         return Check::Refused(Refusal::Short, ByteOffset(0));
@@ -109,11 +85,11 @@ fn check_preamble(f: FormatFacts, bound: Bound, s: &[u8]) -> Check
     if wrong_magic(m, s) {
         return Check::Refused(Refusal::Magic, ByteOffset(0));
     }
-    if s.len() < 8 {
-        return check_rest(bound, s);
+    if s.len() < 5 {
+        return Check::Refused(Refusal::Short, ByteOffset(4));
     }
-    if over_budget(bound, ByteOffset(0), 1, 8) {
-        return check_rest(bound, s);
+    if s.len() < 8 {
+        return Check::Refused(Refusal::Short, ByteOffset(5));
     }
     Check::Pass
 }
@@ -139,38 +115,6 @@ fn check_marks(f: FormatFacts, allow: bool, s: &[u8]) -> Check
     Check::Pass
 }
 
-// That the read of the count at a place is paid for.
-fn check_charge(bound: Bound, at: ByteOffset, s: &[u8]) -> Check
-    ensures { shown_check result ≡ checked (charge_rules bound at.0 s.now) }
-{
-    if count_unpaid(bound, at, s) {
-        return Check::Refused(Refusal::Budget, at);
-    }
-    Check::Pass
-}
-
-// Of a count that is not whole: it is not paid for, or else why it was refused.
-fn refuse_count(bound: Bound, start: ByteOffset, s: &[u8], why: Refusal, at: ByteOffset) -> Scan
-    ensures { shown_scan result ≡ unpaid_or bound start.0 s.now (refused (number_of why) at.0) }
-{
-    let due = check_charge(bound, start, s);
-    if let Check::Refused(unpaid, place) = due {
-        return Scan::Refused(unpaid, place);
-    }
-    Scan::Refused(why, at)
-}
-
-// The same of the external count: the internal one before it may not be paid for.
-fn refuse_external(bound: Bound, start: ByteOffset, s: &[u8], why: Refusal, at: ByteOffset) -> Scan
-    ensures { shown_scan result ≡ unpaid_or bound 8 s.now (unpaid_or bound start.0 s.now (refused (number_of why) at.0)) }
-{
-    let charge = check_charge(bound, ByteOffset(8), s);
-    if let Check::Refused(unpaid, place) = charge {
-        return Scan::Refused(unpaid, place);
-    }
-    refuse_count(bound, start, s, why, at)
-}
-
 // The sum of the node counts.
 fn check_sizes(f: FormatFacts, internal: usize, external: usize) -> Check
     ensures { shown_check result ≡ checked (size_rules f internal external) }
@@ -184,35 +128,29 @@ fn check_sizes(f: FormatFacts, internal: usize, external: usize) -> Check
     Check::Pass
 }
 
-// Nodes of 8 bytes, externals of 32 and, with hashes, internals of 32, of what is left at `at`.
-fn check_budgets(
-    bound: Bound,
-    at: ByteOffset,
-    hashless: bool,
-    internal: usize,
-    external: usize,
-) -> Check
+// Nodes of 8 bytes, externals of 32 and, with hashes, internals of 32.
+fn check_budgets(bound: Bound, hashless: bool, internal: usize, external: usize) -> Check
     requires { internal + external ≤ 2 ^ 30 }
-    ensures { shown_check result ≡ checked (budget_rules bound at.0 hashless internal external) }
+    ensures { shown_check result ≡ checked (budget_rules bound hashless internal external) }
 {
-    if over_budget(bound, at, 8, internal + external) {
+    if over_budget(bound, 8, internal + external) {
         return Check::Refused(Refusal::Budget, ByteOffset(8));
     }
-    if over_budget(bound, at, 32, external) {
+    if over_budget(bound, 32, external) {
         return Check::Refused(Refusal::Budget, ByteOffset(8));
     }
-    if !hashless && over_budget(bound, at, 32, internal) {
+    if !hashless && over_budget(bound, 32, internal) {
         return Check::Refused(Refusal::Budget, ByteOffset(8));
     }
     Check::Pass
 }
 
-// The roots, whose count starts at `start`. Their read needs no test: it is paid for if so many are.
+// The roots, whose count starts at `start`.
 fn check_roots(bound: Bound, start: ByteOffset, roots: Section, s: &[u8]) -> Check
     ensures { shown_check result ≡ checked (root_section_rules bound start.0 roots.count roots.at.0 s.now) }
 {
     let at = roots.at;
-    if over_budget(bound, at, 4, roots.count) {
+    if over_budget(bound, 4, roots.count) {
         return Check::Refused(Refusal::Budget, start);
     }
     if MAX / 4 < roots.count {
@@ -224,8 +162,7 @@ fn check_roots(bound: Bound, start: ByteOffset, roots: Section, s: &[u8]) -> Che
     Check::Pass
 }
 
-// The block data and the sections of `fixed` bytes after it; the block length starts at `start`. Their
-// read needs no test: the length's was of the same bytes.
+// The block data and the sections of `fixed` bytes after it; the block length starts at `start`.
 fn check_sections(bound: Bound, start: ByteOffset, blocks: Section, fixed: usize, s: &[u8]) -> Check
     ensures { shown_check result ≡ checked (section_rules bound start.0 blocks.count blocks.at.0 fixed s.now) }
 {
@@ -233,7 +170,7 @@ fn check_sections(bound: Bound, start: ByteOffset, blocks: Section, fixed: usize
     if MAX - blocks.count < fixed {
         return Check::Refused(Refusal::Overflow, start);
     }
-    if over_budget(bound, at, 1, blocks.count + fixed) {
+    if over_budget(bound, 1, blocks.count + fixed) {
         return Check::Refused(Refusal::Budget, start);
     }
     if is_short(s, at, blocks.count + fixed) {
@@ -347,13 +284,9 @@ fn scan_blocks(bound: Bound, head: Head, roots: Section, s: &[u8]) -> Scan
 {
     let start = ByteOffset(roots.at.0 + 4 * roots.count);
     match read_count(s, start) {
-        CountRead::Refused(why, at) => refuse_count(bound, start, s, why, at),
+        CountRead::Refused(why, at) => Scan::Refused(why, at),
         CountRead::Whole(length, data) => {
             let at = data.at;
-            let charge = check_charge(bound, start, s);
-            if let Check::Refused(why, place) = charge {
-                return Scan::Refused(why, place);
-            }
             let blocks = Section {
                 count: length.value as usize,
                 at,
@@ -375,13 +308,9 @@ fn scan_roots(bound: Bound, head: Head, s: &[u8]) -> Scan
 {
     let start = head.roots_at;
     match read_count(s, start) {
-        CountRead::Refused(why, at) => refuse_count(bound, start, s, why, at),
+        CountRead::Refused(why, at) => Scan::Refused(why, at),
         CountRead::Whole(count, rows) => {
             let at = rows.at;
-            let charge = check_charge(bound, start, s);
-            if let Check::Refused(why, place) = charge {
-                return Scan::Refused(why, place);
-            }
             let roots = Section {
                 count: count.value as usize,
                 at,
@@ -405,36 +334,26 @@ fn scan_sized(f: FormatFacts, bound: Bound, head: Head, s: &[u8]) -> Scan
     if let Check::Refused(why, at) = sizes {
         return Scan::Refused(why, at);
     }
-    let read = head.roots_at;
-    let budgets = check_budgets(bound, read, head.hashless, head.internal, head.external);
+    let budgets = check_budgets(bound, head.hashless, head.internal, head.external);
     if let Check::Refused(why, at) = budgets {
         return Scan::Refused(why, at);
     }
     scan_roots(bound, head, s)
 }
 
-// The two node counts, and what depends on them. A count is read before it is seen whether it is paid
-// for: the tests of the bound then stand together, and with none they are one.
+// The two node counts, and what depends on them.
 fn scan_counts(f: FormatFacts, bound: Bound, hashless: bool, s: &[u8]) -> Scan
     requires { f.max_nodes ≤ 2 ^ 30 }
     ensures { shown_scan result ≡ counts_outcome f bound hashless s.now }
 {
     match read_count(s, ByteOffset(8)) {
-        CountRead::Refused(why, at) => refuse_count(bound, ByteOffset(8), s, why, at),
+        CountRead::Refused(why, at) => Scan::Refused(why, at),
         CountRead::Whole(internal, second) => {
             let external_at = second.at;
             match read_count(s, external_at) {
-                CountRead::Refused(why, at) => refuse_external(bound, external_at, s, why, at),
+                CountRead::Refused(why, at) => Scan::Refused(why, at),
                 CountRead::Whole(external, third) => {
                     let roots_at = third.at;
-                    let first = check_charge(bound, ByteOffset(8), s);
-                    if let Check::Refused(why, place) = first {
-                        return Scan::Refused(why, place);
-                    }
-                    let charge = check_charge(bound, external_at, s);
-                    if let Check::Refused(why, place) = charge {
-                        return Scan::Refused(why, place);
-                    }
                     let head = Head {
                         hashless,
                         internal: internal.value as usize,
@@ -457,7 +376,7 @@ pub fn scan_layout(s: &[u8], f: FormatFacts, allow: bool, bound: Bound) -> Scan
     ensures given { Given f s.now }
 {
     are_given(s, f);
-    let preamble = check_preamble(f, bound, s);
+    let preamble = check_preamble(f, s);
     if let Check::Refused(why, at) = preamble {
         return Scan::Refused(why, at);
     }

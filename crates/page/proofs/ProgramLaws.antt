@@ -34,9 +34,9 @@ module _ (s : List ℕ) (i : ℕ) (inside : i < length s) where
   unfolding word_count
   count_here h = rw (drop-cons s i 0 inside, eq-eqb (get_or s i 0) 0 h, add-one)
 
-  pub count_on_lem : (get_or s i 0 ≡ 0 → ⊥) → word_count (drop i s) ≡ word_count (drop (i + 1) s)
+  pub count_on : (get_or s i 0 ≡ 0 → ⊥) → word_count (drop i s) ≡ word_count (drop (i + 1) s)
   unfolding word_count
-  count_on_lem h = rw (drop-cons s i 0 inside, ne_eqb (get_or s i 0) 0 h, add-one)
+  count_on h = rw (drop-cons s i 0 inside, ne_eqb (get_or s i 0) 0 h, add-one)
 
 pub count_none : (s : List ℕ) (i : ℕ) → length s ≤ i → word_count (drop i s) ≡ 0
 unfolding word_count

@@ -8,7 +8,7 @@ use mathlib.Core.List.{List, [], ◌∷◌, ◌++◌, map}
 use Prim.Native.Nat.{ℕ, ◌-◌, ◌^◌}
 use lib.Count.{count_trailing_zeros, ones, ones_in}
 use Rattle.wire.specs.Table.{Outcome, refused, accepted, first_met, ◌>>=◌, At}
-use Rattle.wire.specs.Refusals.{SHORT, MAGIC, VERSION, FLAGS, OVERFLOW, TOO-MANY, BUDGET, TAG, PAYLOAD, EXTERNALS}
+use Rattle.wire.specs.Refusals.{SHORT, TAG, PAYLOAD}
 use Rattle.wire.specs.Le.{le, le_bytes}
 use Rattle.wire.specs.Counts.{long_ones, count_length, count_value, counted, count_outcome, least_from, shortest_len, count_form, count_bytes}
 use Rattle.wire.specs.Rows.{numbers_of}
@@ -17,7 +17,7 @@ use Rattle.wire.specs.declared.count.Count.{Count}
 use Rattle.info.specs.Entry.{entry_of, bad_tag, bad_payload, decode_rules, decode_outcome, encode_outcome}
 use Rattle.info.specs.declared.MastNodeEntry.{MastNodeEntry}
 use Rattle.info.specs.declared.MastNodeEntry.TheVariants.{Join, Dyn}
-use Rattle.layout.specs.Facts.{bad_format, over_budget, count_size}
+use Rattle.layout.specs.Facts.{bad_format, over_budget}
 use Rattle.layout.specs.Scan.{Scanned, words_rules, externals, scan_rules, scan_outcome}
 use Rattle.rows.specs.Rows.{row_rules, row_outcome, node_pass}
 use Rattle.resolved.specs.Slots.{count_of, slots_of, table_rules, slots_outcome, table_after}
@@ -28,7 +28,7 @@ use Rattle.whole.specs.Whole.{map_outcome, whole_outcome}
 use Rattle.page.specs.Page.{hashes_text, page_text}
 use Rattle.page.specs.Answer.{answer_outcome, answer_text}
 use Rattle.layout.specs.declared.facts.FormatFacts.{FormatFacts}
-use Rattle.layout.specs.declared.facts.Bound.TheVariants.{None, Bytes}
+use Rattle.layout.specs.declared.facts.Bound.TheVariants.{None}
 use Rattle.layout.specs.declared.forest.HashSection.TheVariants.{Absent}
 
 -- what is asked, and what is answered
@@ -41,7 +41,6 @@ pub data Question : Type 0 where
   slots : List ℕ → Question
   page : List ℕ → Question
   long : List ℕ → Question
-  under : ℕ → List ℕ → Question
 
 pub data Answer : Type 0 where
   counts : Outcome (At Count) → Answer
@@ -51,7 +50,6 @@ pub data Answer : Type 0 where
   layout : Outcome Scanned → Answer
   table : List ℕ → Answer
   longs : Outcome (ℕ × ℕ) → Answer
-  map_at_lem : Outcome ℕ → Answer
 
 pub record Example : Type 0 where
   pub question : Question
@@ -114,14 +112,6 @@ long_numbers s = scan_outcome stand_in s true None >>= (λ x. walk_outcome 2 s x
 abbrev pub headed : List ℕ → List ℕ
 headed rest = 0x4D ∷ 0x41 ∷ 0x53 ∷ 0x54 ∷ 0x00 ∷ 0x00 ∷ 0x00 ∷ 0x02 ∷ rest
 
--- the same with the hashless flag
-abbrev pub hashless_headed : List ℕ → List ℕ
-hashless_headed rest = 0x4D ∷ 0x41 ∷ 0x53 ∷ 0x54 ∷ 0x02 ∷ 0x00 ∷ 0x00 ∷ 0x02 ∷ rest
-
--- where the map of an accepted file is
-abbrev pub map_place : Outcome Scanned → Outcome ℕ
-map_place o = o >>= (λ x. accepted x.layout.advice_map_offset.0)
-
 -- what the definitions answer
 abbrev pub ask : Question → Answer
 ask (count bs) = counts (count_outcome bs 0)
@@ -132,7 +122,6 @@ ask (scan s) = layout (scan_outcome stand_in s true None)
 ask (slots s) = table (slot_table s (scan_outcome stand_in s true None))
 ask (page s) = bytes (answer_text stand_in 8 s)
 ask (long s) = longs (long_numbers s)
-ask (under n s) = map_at_lem (map_place (scan_outcome stand_in s true (Bytes n)))
 
 abbrev pub examples : List Example
 examples =
@@ -207,53 +196,8 @@ examples =
     ∷ (count (0x40 ∷ 0x00 ∷ 0x00 ∷ 0x00 ∷ 0x00 ∷ 0x00 ∷ 0x80 ∷ 0xFF ∷ []) ⇒ says (2 ^ 48) 7)
     ∷ (count (0x00 ∷ 0xFF ∷ 0xFF ∷ 0xFF ∷ 0xFF ∷ 0xFF ∷ 0xFF ∷ 0xFF ∷ []) ⇒ counts (refused SHORT 0))
     ∷ (count (0x00 ∷ 0xFF ∷ 0xFF ∷ 0xFF ∷ 0xFF ∷ 0xFF ∷ 0xFF ∷ 0xFF ∷ 0xFF ∷ []) ⇒ says (2 ^ 64 - 1) 9)
-    -- request 5: for each line of the scan's table that can be met under a bound, a file that meets it; one more byte passes a line of BUDGET
-    -- the header's reads, of 4, 1 and 3 bytes
-    ∷ (under 3 [] ⇒ map_at_lem (refused BUDGET 0))
-    ∷ (under 4 [] ⇒ map_at_lem (refused SHORT 0))
-    ∷ (under 4 (0x61 ∷ 0x62 ∷ 0x63 ∷ 0x64 ∷ []) ⇒ map_at_lem (refused MAGIC 0))
-    ∷ (under 4 (0x4D ∷ 0x41 ∷ 0x53 ∷ 0x54 ∷ []) ⇒ map_at_lem (refused BUDGET 4))
-    ∷ (under 5 (0x4D ∷ 0x41 ∷ 0x53 ∷ 0x54 ∷ []) ⇒ map_at_lem (refused SHORT 4))
-    ∷ (under 7 (0x4D ∷ 0x41 ∷ 0x53 ∷ 0x54 ∷ 0x00 ∷ []) ⇒ map_at_lem (refused BUDGET 5))
-    ∷ (under 8 (0x4D ∷ 0x41 ∷ 0x53 ∷ 0x54 ∷ 0x00 ∷ []) ⇒ map_at_lem (refused SHORT 5))
-    ∷ (under 8 (0x4D ∷ 0x41 ∷ 0x53 ∷ 0x54 ∷ 0x00 ∷ 0x78 ∷ 0x79 ∷ 0x7A ∷ []) ⇒ map_at_lem (refused VERSION 5))
-    ∷ (under 8 (0x4D ∷ 0x41 ∷ 0x53 ∷ 0x54 ∷ 0x80 ∷ 0x00 ∷ 0x00 ∷ 0x02 ∷ []) ⇒ map_at_lem (refused FLAGS 4))
-    -- the node counts' reads, by the first byte or of one, and then the floors of what is left after both
-    ∷ (under 9 (headed (0x02 ∷ [])) ⇒ map_at_lem (refused BUDGET 8))
-    ∷ (under 10 (headed (0x02 ∷ [])) ⇒ map_at_lem (refused SHORT 8))
-    ∷ (under 8 (headed []) ⇒ map_at_lem (refused BUDGET 8))
-    ∷ (under 9 (headed []) ⇒ map_at_lem (refused SHORT 8))
-    ∷ (under 9 (headed (0x03 ∷ [])) ⇒ map_at_lem (refused BUDGET 9))
-    ∷ (under 10 (headed (0x03 ∷ [])) ⇒ map_at_lem (refused SHORT 9))
-    ∷ (under 18 (headed (0x00 ∷ 0xFF ∷ 0xFF ∷ 0xFF ∷ 0xFF ∷ 0xFF ∷ 0xFF ∷ 0xFF ∷ 0xFF ∷ 0x03 ∷ [])) ⇒ map_at_lem (refused OVERFLOW 8))
-    ∷ (under 14 (headed (0x10 ∷ 0x00 ∷ 0x00 ∷ 0x00 ∷ 0x08 ∷ 0x01 ∷ [])) ⇒ map_at_lem (refused TOO-MANY 8))
-    ∷ (under 17 (headed (0x03 ∷ 0x01 ∷ [])) ⇒ map_at_lem (refused BUDGET 8))
-    ∷ (under 41 (headed (0x01 ∷ 0x03 ∷ [])) ⇒ map_at_lem (refused BUDGET 8))
-    ∷ (under 42 (headed (0x01 ∷ 0x03 ∷ [])) ⇒ map_at_lem (refused SHORT 10))
-    ∷ (under 41 (headed (0x03 ∷ 0x01 ∷ [])) ⇒ map_at_lem (refused BUDGET 8))
-    ∷ (under 42 (headed (0x03 ∷ 0x01 ∷ [])) ⇒ map_at_lem (refused SHORT 10))
-    ∷ (under 17 (hashless_headed (0x03 ∷ 0x01 ∷ [])) ⇒ map_at_lem (refused BUDGET 8))
-    ∷ (under 18 (hashless_headed (0x03 ∷ 0x01 ∷ [])) ⇒ map_at_lem (refused SHORT 10))
-    -- the roots, and the block length with the sections
-    ∷ (under 10 (headed (0x01 ∷ 0x01 ∷ [])) ⇒ map_at_lem (refused BUDGET 10))
-    ∷ (under 11 (headed (0x01 ∷ 0x01 ∷ [])) ⇒ map_at_lem (refused SHORT 10))
-    ∷ (under 14 (headed (0x01 ∷ 0x01 ∷ 0x03 ∷ [])) ⇒ map_at_lem (refused BUDGET 10))
-    ∷ (under 15 (headed (0x01 ∷ 0x01 ∷ 0x03 ∷ [])) ⇒ map_at_lem (refused SHORT 11))
-    ∷ (under 11 (headed (0x01 ∷ 0x01 ∷ 0x01 ∷ [])) ⇒ map_at_lem (refused BUDGET 11))
-    ∷ (under 12 (headed (0x01 ∷ 0x01 ∷ 0x01 ∷ [])) ⇒ map_at_lem (refused SHORT 11))
-    ∷ (under (2 ^ 64 - 1) (hashless_headed (0x03 ∷ 0x01 ∷ 0x01 ∷ 0x00 ∷ 0xFF ∷ 0xFF ∷ 0xFF ∷ 0xFF ∷ 0xFF ∷ 0xFF ∷ 0xFF ∷ 0xFF ∷ [])) ⇒ map_at_lem (refused OVERFLOW 11))
-    ∷ (under 12 (headed (0x01 ∷ 0x01 ∷ 0x01 ∷ 0x03 ∷ [])) ⇒ map_at_lem (refused BUDGET 11))
-    ∷ (under 13 (headed (0x01 ∷ 0x01 ∷ 0x01 ∷ 0x03 ∷ [])) ⇒ map_at_lem (refused SHORT 12))
-    -- the entries ask for nothing more; and the least bound is the map's offset
-    ∷ (under 20 (hashless_headed (0x03 ∷ 0x01 ∷ 0x01 ∷ 0x01 ∷ 0x00 ∷ 0x00 ∷ 0x00 ∷ 0x00 ∷ 0x00 ∷ 0x00 ∷ 0x00 ∷ 0x90 ∷ [])) ⇒ map_at_lem (refused TAG 12))
-    ∷ (under 20 (hashless_headed (0x03 ∷ 0x01 ∷ 0x01 ∷ 0x01 ∷ 0x00 ∷ 0x00 ∷ 0x00 ∷ 0x00 ∷ 0x01 ∷ 0x00 ∷ 0x00 ∷ 0x20 ∷ [])) ⇒ map_at_lem (refused PAYLOAD 12))
-    ∷ (under 20 (hashless_headed (0x03 ∷ 0x01 ∷ 0x01 ∷ 0x01 ∷ 0x00 ∷ 0x00 ∷ 0x00 ∷ 0x00 ∷ 0x00 ∷ 0x00 ∷ 0x00 ∷ 0x80 ∷ [])) ⇒ map_at_lem (refused EXTERNALS 9))
-    ∷ (under 20 (hashless_headed (0x03 ∷ 0x01 ∷ 0x01 ∷ 0x01 ∷ 0x00 ∷ 0x00 ∷ 0x00 ∷ 0x00 ∷ 0x00 ∷ 0x00 ∷ 0x00 ∷ 0x60 ∷ [])) ⇒ map_at_lem (accepted 20))
-    ∷ (under 19 (hashless_headed (0x03 ∷ 0x01 ∷ 0x01 ∷ 0x01 ∷ 0x00 ∷ 0x00 ∷ 0x00 ∷ 0x00 ∷ 0x00 ∷ 0x00 ∷ 0x00 ∷ 0x60 ∷ [])) ⇒ map_at_lem (refused BUDGET 11))
-    ∷ (under 73 hashless_file ⇒ map_at_lem (accepted 73))
-    ∷ (under 72 hashless_file ⇒ map_at_lem (refused BUDGET 15))
     ∷ []
 
 pub answered : map (λ (x : Example). ask x.question) examples ≡ map (λ (x : Example). x.answer) examples
-unfolding first_met count_outcome long_ones counted count_length count_trailing_zeros count_value le le_bytes count_form shortest_len least_from decode_outcome decode_rules entry_of bad_tag bad_payload encode_outcome scan_outcome scan_rules bad_format ones ones_in over_budget count_size words_rules externals numbers_of table_after slots_outcome table_rules slots_of count_of node_pass row_outcome row_rules ◌>>=◌ walk_rules walk_end walk_shown is_element not_elements four_at seen_key map_rules walk_outcome quoted decimal_in decimal piece holes_past filled_from hashes_text page_text map_outcome whole_outcome answer_outcome answer_text
+unfolding first_met count_outcome long_ones counted count_length count_trailing_zeros count_value le le_bytes count_form shortest_len least_from decode_outcome decode_rules entry_of bad_tag bad_payload encode_outcome scan_outcome scan_rules bad_format ones ones_in over_budget words_rules externals numbers_of table_after slots_outcome table_rules slots_of count_of node_pass row_outcome row_rules ◌>>=◌ walk_rules walk_end walk_shown is_element not_elements four_at seen_key map_rules walk_outcome quoted decimal_in decimal piece holes_past filled_from hashes_text page_text map_outcome whole_outcome answer_outcome answer_text
 answered = refl

@@ -25,4 +25,3 @@ pub mod Demand3
 pub mod Examples
 pub mod Request2
 pub mod Request4
-pub mod Request5

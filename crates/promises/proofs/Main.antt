@@ -38,7 +38,6 @@ use Rattle.promises.proofs.Demand2.{Demand2File, file_demanded, Demand2Map, map_
 use Rattle.promises.proofs.Demand3.{Accepts, Demand3, shortest_demanded}
 use Rattle.promises.proofs.Request2.{Request2, long_counts}
 use Rattle.promises.proofs.Request4.{Request4, counts_together}
-use Rattle.promises.proofs.Request5.{Request5, falling_bound}
 
 -- 1. Each public function answers whatever it is given: that it does is its own proof, and here it is seen that it asks nothing of its caller, that
 -- one answer, or one refusal with its number and place, is allowed, and what a refusal leaves in lent memory.
@@ -79,8 +78,3 @@ request_2 = long_counts
 -- Request 4. What the count reader promises is what one says that takes eight bytes, where they are left, as one word and shifts it, and nothing else.
 pub request_4 : (s : List ℕ) (at : ℕ) (r : CountRead) → Bytes s → ReadsCount s at r ↔ Request4 s at r
 request_4 = counts_together
-
--- Request 5. The bound falls as bytes are read: with n the scan answers as it does with no bound, or BUDGET; more n never makes BUDGET of another answer;
--- and a file that passes with no bound passes with n exactly if n is at least its map's offset.
-pub request_5 : (s : List ℕ) (f : FormatFacts) (allow : Bool) → Request5 s f allow
-request_5 = falling_bound

@@ -2,7 +2,7 @@
 -- met; an accepted file's sections lie end to end inside it, its nodes are few, each of its entries reads, and entries and roots by index are
 -- those that its parts have.
 -- Assumes nothing.
-use mathlib.Core.Path.{◌≡◌, refl, sym, ap, subst, ◌∙◌}
+use mathlib.Core.Path.{◌≡◌, sym, ap, subst, ◌∙◌}
 use mathlib.Core.Bool.{Bool}
 use mathlib.Core.List.{List}
 use mathlib.Core.Logic.{◌↔◌}
@@ -37,10 +37,6 @@ use Rattle.writer.specs.Parts.{parts_shown}
 use Rattle.renderings.proofs.Indexed.{entry_shown, root_shown}
 use Rattle.promises.proofs.Calls.{Scans, ReadsNode, ReadsRoot}
 
--- two answers of which the same is shown are one
-pub one_answer : (r q : Scan) → shown_scan r ≡ shown_scan q → r ≡ q
-one_answer r q e = same_answer shown_scan scan_back scan_again (shown_scan q) r q e refl
-
 module _ (s : List ℕ) (f : FormatFacts) (allow : Bool) (bound : Bound) (r : Scan) (promised : Scans s f allow bound r) where
   -- accepted, with the layout that the table's places give and the number of long counts, exactly if no rule is met
   pub accepts : (l : ForestLayout) (long : ℕ) → (r ≡ Accepted l long) ↔ (NoneMet (scan_rules f s allow bound) × (scan_shown f s allow bound ≡ record { layout = l; long = long }))
@@ -48,7 +44,7 @@ module _ (s : List ℕ) (f : FormatFacts) (allow : Bool) (bound : Bound) (r : Sc
   accepts l long =
       let law = accepts_exactly (scan_rules f s allow bound) (scan_shown f s allow bound) (record { layout = l; long = long }) in (
         λ e. law.0 (sym promised.answer ∙ ap shown_scan e),
-        λ h. one_answer r (Accepted l long) (promised.answer ∙ law.1 h),
+        λ h. same_answer shown_scan scan_back scan_again _ r (Accepted l long) promised.answer (sym (law.1 h)),
       )
 
   -- refused by the first rule that is met, all earlier ones unmet
@@ -57,7 +53,7 @@ module _ (s : List ℕ) (f : FormatFacts) (allow : Bool) (bound : Bound) (r : Sc
   refuses why at =
       let law = refuses_exactly (scan_rules f s allow bound) (scan_shown f s allow bound) (number_of why) at.0 in (
         λ e. law.0 (sym promised.answer ∙ ap shown_scan e),
-        λ h. one_answer r (Refused why at) (promised.answer ∙ law.1 h),
+        λ h. same_answer shown_scan scan_back scan_again _ r (Refused why at) promised.answer (sym (law.1 h)),
       )
 
   -- of an accepted file

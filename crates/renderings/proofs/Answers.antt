@@ -1,14 +1,12 @@
 -- Scan and walk accept a file exactly if no rule of their tables is met; and then the walk ends where the file's map does.
 -- Assumes nothing.
-use mathlib.Core.Path.{◌≡◌, sym, ap, ◌∙◌}
+use mathlib.Core.Path.{◌≡◌, ap, ◌∙◌}
 use mathlib.Core.List.{List}
 use mathlib.Core.Bool.{true}
 use Prim.Native.Nat.{ℕ}
 use Rattle.wire.specs.Table.{NoneMet}
 use Rattle.wire.proofs.Tables.{none_append, none_parts, accepted_none, none_accepted}
-use Rattle.layout.specs.Scan.{Scanned, map_at, layout_shown, scan_shown, scan_outcome}
-use Rattle.layout.specs.Unbound.{unbound_rules}
-use Rattle.layout.proofs.Falling.{no_bound}
+use Rattle.layout.specs.Scan.{Scanned, map_at, scan_rules, layout_shown, scan_shown, scan_outcome}
 use Rattle.layout.specs.declared.facts.FormatFacts.{FormatFacts}
 use Rattle.layout.specs.declared.facts.Bound.TheVariants.{None}
 use Rattle.advice.specs.Walk.{Walked, walked, map_rules, walk_outcome}
@@ -25,12 +23,12 @@ module _ (f : FormatFacts) (places : ℕ) (s : List ℕ) where
   pub none_taken : NoneMet (file_rules f places s) → Taken f places s ends_at
   unfolding scan_outcome walk_outcome
   none_taken ok =
-      let n = none_parts (unbound_rules f s true) (map_rules s at places) ok in
+      let n = none_parts (scan_rules f s true None) (map_rules s at places) ok in
       record {
         layout = layout_shown f s true None;
         scan_long = (scan_shown f s true None).long;
         walk_long = (walked s at).long;
-        scanned = no_bound f s true (scan_shown f s true None) ∙ none_accepted (unbound_rules f s true) (scan_shown f s true None) n.0;
+        scanned = none_accepted (scan_rules f s true None) (scan_shown f s true None) n.0;
         walked = none_accepted (map_rules s at places) (walked s at) n.1;
       }
 
@@ -42,15 +40,15 @@ module _ (f : FormatFacts) (places : ℕ) (s : List ℕ) where
     walk = record { entries = w.entries; end = w.end; long = t.walk_long }
 
     -- what scan and walk gave is what the file shows
-    pub taken_shown : (NoneMet (unbound_rules f s true) × (scan_shown f s true None ≡ scan)) × (NoneMet (map_rules s at places) × (walked s at ≡ walk))
+    pub taken_shown : (NoneMet (scan_rules f s true None) × (scan_shown f s true None ≡ scan)) × (NoneMet (map_rules s at places) × (walked s at ≡ walk))
     unfolding scan_outcome walk_outcome
     taken_shown =
-        let a = accepted_none (unbound_rules f s true) (scan_shown f s true None) scan (sym (no_bound f s true (scan_shown f s true None)) ∙ t.scanned) in
+        let a = accepted_none (scan_rules f s true None) (scan_shown f s true None) scan t.scanned in
         let same = ap (λ (x : Scanned). walk_outcome places s x.layout.advice_map_offset.0) a.1 in
         (a, accepted_none (map_rules s at places) (walked s at) walk (same ∙ t.walked))
 
     pub taken_none : NoneMet (file_rules f places s) × (ends_at ≡ w)
     taken_none = (
-      none_append (unbound_rules f s true) (map_rules s at places) taken_shown.0.0 taken_shown.1.0,
+      none_append (scan_rules f s true None) (map_rules s at places) taken_shown.0.0 taken_shown.1.0,
       ap (λ (x : Walked). record { entries = x.entries; end = x.end }) taken_shown.1.1,
     )

@@ -1,4 +1,4 @@
--- The file as a piece: its sections one after the other, read with hashless files allowed and no bound. The scan's table without a bound and the
+-- The file as a piece: its sections one after the other, read with hashless files allowed and no allocation bound. The scan's table and the
 -- walk's are this piece's rules (proofs/Shown.antt).
 -- Assumes nothing.
 use mathlib.Core.Path.{◌≡◌, refl}
@@ -11,7 +11,7 @@ use borrow.Author.Tests.{le-ltb}
 use lib.Dec.{ltb, eqb}
 use lib.ListN.{length, length-append}
 use Rattle.wire.specs.Table.{Rule, rule, NoneMet}
-use Rattle.wire.specs.Refusals.{SHORT, MAGIC, VERSION, FLAGS, HASHLESS, OVERFLOW, TOO-MANY, EXTERNALS, FORMAT}
+use Rattle.wire.specs.Refusals.{SHORT, MAGIC, VERSION, FLAGS, HASHLESS, OVERFLOW, TOO-MANY, BUDGET, EXTERNALS, FORMAT}
 use Rattle.wire.specs.Le.{over}
 use Rattle.wire.specs.Counts.{counted}
 use Rattle.wire.specs.Rows.{rows}
@@ -19,9 +19,10 @@ use Rattle.wire.specs.declared.count.Count.{Count}
 use Rattle.wire.proofs.Tables.{none_append, none_parts}
 use Rattle.wire.proofs.Piece.{◌▸◌, Tests, Piece, then, both, checked, tested, guarded, within, tidied}
 use Rattle.wire.proofs.Leaves.{count, bytes, byte, given, numbers, length-rows}
-use Rattle.layout.specs.Facts.{share, bad_format, hash_bytes}
+use Rattle.layout.specs.Facts.{share, bad_format, over_budget, hash_bytes}
 use Rattle.layout.specs.Scan.{words_rules, externals}
 use Rattle.layout.specs.declared.facts.FormatFacts.{FormatFacts}
+use Rattle.layout.specs.declared.facts.Bound.TheVariants.{None}
 use Rattle.advice.proofs.Pieces.{Entry, map_piece}
 use Rattle.writer.specs.Writer.{written}
 use Rattle.layout.specs.Given.{Proper}
@@ -144,10 +145,12 @@ module _ (f : FormatFacts) where
     hashes = hash_bytes (share flags f.hashless) i
 
     abbrev roots_count : Piece Count
-    roots_count = counting here (λ n. (OVERFLOW, over (4 * n)) ∷ [])
+    roots_count = counting here (λ n. (BUDGET, over_budget None 4 n) ∷ (OVERFLOW, over (4 * n)) ∷ [])
 
     abbrev block_count : Piece Count
-    block_count = counting here (λ b. (OVERFLOW, over (b + (8 * (i + e) + (32 * e + hashes)))) ∷ [])
+    block_count =
+        counting here
+        (λ b. (OVERFLOW, over (b + (8 * (i + e) + (32 * e + hashes)))) ∷ (BUDGET, over_budget None 1 (b + (8 * (i + e) + (32 * e + hashes)))) ∷ [])
 
     abbrev pub body : Piece Body
     body =
@@ -159,8 +162,15 @@ module _ (f : FormatFacts) where
         (λ a. refl)
 
   -- the two node counts
-  abbrev external_count : ℕ → Piece Count
-  external_count i = counting (λ at. 8) (λ e. (OVERFLOW, over (i + e)) ∷ (TOO-MANY, ltb f.max_nodes (i + e)) ∷ [])
+  abbrev external_count : ℕ → ℕ → Piece Count
+  external_count flags i =
+      counting (λ at. 8)
+      (λ e. (OVERFLOW, over (i + e))
+      ∷ (TOO-MANY, ltb f.max_nodes (i + e))
+      ∷ (BUDGET, over_budget None 8 (i + e))
+      ∷ (BUDGET, over_budget None 32 e)
+      ∷ (BUDGET, not (share flags f.hashless) && over_budget None 32 i)
+      ∷ [])
 
   module _ (k : Proper f) where
     abbrev header : Piece Header
@@ -173,7 +183,7 @@ module _ (f : FormatFacts) where
     scan =
         then header
         (λ h. then count
-        (λ i. then (external_count i.value) (λ e. body h.1.0 i.value e.value)
+        (λ i. then (external_count h.1.0 i.value) (λ e. body h.1.0 i.value e.value)
         (λ a. refl))
         (λ a. refl))
         (λ a. refl)

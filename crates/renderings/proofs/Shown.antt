@@ -4,8 +4,7 @@ use mathlib.Core.Path.{◌≡◌}
 use mathlib.Core.List.{List, ◌∷◌, map}
 use Prim.Native.Nat.{ℕ}
 use Rattle.wire.specs.declared.count.Count.{Count}
-use Rattle.layout.specs.Scan.{map_at}
-use Rattle.layout.specs.Unbound.{unbound_rules}
+use Rattle.layout.specs.Scan.{map_at, scan_rules}
 use Rattle.layout.specs.declared.facts.FormatFacts.{FormatFacts}
 use Rattle.advice.specs.Walk.{Advice}
 use Rattle.advice.proofs.Pieces.{Entry, map_rules_lem, map_end, map_shown}
@@ -59,7 +58,7 @@ lengths_of v =
 
 module _ (f : FormatFacts) (k : Proper f) (places : ℕ) (s : List ℕ) where
   pub rules_same : file_rules f places s ≡ (file f k places).rules s 0
-  unfolding unbound_rules
+  unfolding scan_rules
   rules_same = rw (map_rules_lem places s)
 
   pub end_same : file_end f s ≡ (file f k places).next s 0

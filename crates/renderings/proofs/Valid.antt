@@ -3,7 +3,7 @@
 -- Assumes nothing.
 use mathlib.Core.Path.{◌≡◌, refl, sym, ap, ◌∙◌}
 use mathlib.Core.List.{[]}
-use mathlib.Core.Bool.{false, not}
+use mathlib.Core.Bool.{Bool, true, false, not, ◌&&◌}
 use Prim.Native.Nat.{ℕ, ◌+◌, ◌-◌, ◌*◌, ◌^◌, ◌≤◌, ◌<◌}
 use native.Mathlib.Omega.{arith}
 use borrow.Author.Tests.{ltb-false, le-ltb, eq-eqb}
@@ -13,10 +13,9 @@ use Rattle.wire.specs.Table.{NoneMet}
 use Rattle.wire.specs.Le.{over}
 use Rattle.wire.proofs.Tables.{none_append}
 use Rattle.wire.proofs.Piece.{◌▸◌}
-use Rattle.layout.specs.Facts.{share, hash_bytes}
+use Rattle.layout.specs.Facts.{share, over_budget, hash_bytes}
 use Rattle.layout.specs.Scan.{words_rules, externals}
 use Rattle.layout.specs.declared.facts.FormatFacts.{FormatFacts}
-use Rattle.layout.proofs.Tests.{and_false}
 use Rattle.writer.specs.Parts.{Parts}
 use Rattle.writer.specs.Writer.{internals, written, written_file, key_rules, writer_rules}
 use Rattle.layout.specs.Given.{Proper}
@@ -45,7 +44,7 @@ module _ (f : FormatFacts) (k : Proper f) (places : ℕ) (v : File) (good : (fil
       let x = (external_of v).value in
       let sum = (block_count_of v).value + (8 * (i + x) + (32 * x + hash_bytes (share (flag_of v) f.hashless) i)) in
       let most : i + x ≤ f.max_nodes = ltb-false _ _ good.0.1.1.0.1.1.0 in
-      let roots : 4 * (root_count_of v).value ≤ 2 ^ 64 - 1 = ltb-false _ _ b.0.1.0 in
+      let roots : 4 * (root_count_of v).value ≤ 2 ^ 64 - 1 = ltb-false _ _ b.0.1.1.0 in
       let sections : sum ≤ 2 ^ 64 - 1 = ltb-false _ _ b.1.1.0.1.0 in
       record {
         format = head.0.0;
@@ -86,11 +85,16 @@ module _ (f : FormatFacts) (k : Proper f) (places : ℕ) (v : File) (good : (fil
 
 -- ---- the value of valid parts and their lengths
 
+and_false : (b : Bool) → (b && false) ≡ false
+and_false true = refl
+and_false false = refl
+
 module _ (f : FormatFacts) (k : Proper f) (places : ℕ) (p : Parts) (valid : Valid f places p) where
   nodes_sum : internals p.words + externals p.words ≡ length p.words
   nodes_sum = omega (arith, externals_few p.words)
 
   pub valid_good : (l : Lengths) → Lengthened p l → (file f k places).Good (value_of p p.words l)
+  unfolding over_budget
   valid_good l long =
       let i = internals p.words in
       let e = externals p.words in
@@ -112,13 +116,13 @@ module _ (f : FormatFacts) (k : Proper f) (places : ℕ) (p : Parts) (valid : Va
           (
             (long.internal, refl),
             (
-              ((long.external, refl), (nodes, (most, tt))),
+              ((long.external, refl), (nodes, (most, (refl, (refl, (and_false (not (share p.flags f.hashless)), tt)))))),
               (
-                ((long.roots, refl), (roots, tt)),
+                ((long.roots, refl), (refl, (roots, tt))),
                 (
                   (refl, valid.roots_fit),
                   (
-                    ((long.blocks, refl), (sections, tt)),
+                    ((long.blocks, refl), (sections, (refl, tt))),
                     (
                       ((refl, valid.blocks_fit), ((sym n, valid.words_fit), ((x, valid.external_fit), (y, valid.hashes_fit)))),
                       ((entries_mean 1 0 p.words).0 valid.entries, counted),

@@ -5,8 +5,7 @@ use Rattle.wire.specs.Le.{Bytes}
 use Rattle.wire.specs.Rows.{rows, Below}
 use Rattle.wire.specs.Counts.{Form, count_form, shortest_len}
 use Rattle.layout.specs.Facts.{share, bad_format, hash_bytes}
-use Rattle.layout.specs.Scan.{words_rules, externals, internal, external, roots, blocks, map_at, scan_outcome}
-use Rattle.layout.specs.Unbound.{unbound_rules}
+use Rattle.layout.specs.Scan.{words_rules, externals, internal, external, roots, blocks, map_at, scan_rules, scan_outcome}
 use Rattle.layout.specs.declared.facts.FormatFacts.{FormatFacts}
 use Rattle.layout.specs.declared.facts.Bound.TheVariants.{None}
 use Rattle.layout.specs.declared.forest.ForestLayout.{ForestLayout}
@@ -30,7 +29,7 @@ pub record Taken (f : FormatFacts) (places : ℕ) (s : List ℕ) (w : Ends) : Ty
 
 -- no rule of this table is met exactly if they accept
 abbrev pub file_rules : FormatFacts → ℕ → List ℕ → List Rule
-file_rules f places s = unbound_rules f s true ++ map_rules s (map_at f s) places
+file_rules f places s = scan_rules f s true None ++ map_rules s (map_at f s) places
 
 -- ---- parts under lengths
 

@@ -9,7 +9,6 @@ use native.Mathlib.Omega.{arith}
 use Rattle.wire.specs.Table.{Rule, refused, accepted, pick, first_met}
 use Rattle.wire.specs.Words.{four_at}
 use Rattle.wire.proofs.Stages.{first_or_later}
-use Rattle.wire.proofs.Piece.{◌▸◌}
 use Rattle.info.specs.Entry.{decode_rules}
 use Rattle.layout.specs.Scan.{words_rules, words, entries_at, scan_rules, scan_shown, scan_outcome}
 use Rattle.layout.specs.declared.facts.FormatFacts.{FormatFacts}
@@ -48,19 +47,9 @@ scan_listed : (f : FormatFacts) (s : List ℕ) (allow : Bool) (bound : Bound) �
 unfolding scan_rules
 scan_listed f s allow bound =
     let one : Numbered 1 = (omega arith, omega arith) in
-    let two : Numbered 2 = (omega arith, omega arith) in
-    let three : Numbered 3 = (omega arith, omega arith) in
-    let four : Numbered 4 = (omega arith, omega arith) in
-    let five : Numbered 5 = (omega arith, omega arith) in
     let six : Numbered 6 = (omega arith, omega arith) in
-    let seven : Numbered 7 = (omega arith, omega arith) in
     let eight : Numbered 8 = (omega arith, omega arith) in
-    (omega arith, omega arith)
-    ▸ eight ▸ one ▸ two ▸ eight ▸ one ▸ eight ▸ one ▸ three ▸ four ▸ five
-    ▸ eight ▸ one ▸ eight ▸ one ▸ six ▸ seven ▸ eight ▸ eight ▸ eight
-    ▸ eight ▸ one ▸ eight ▸ six ▸ eight ▸ one
-    ▸ eight ▸ one ▸ six ▸ eight ▸ eight ▸ one
-    ▸ both_listed (words_rules 8 (entries_at f s) (words f s)) _ (words_listed 8 (entries_at f s) (words f s)) ((omega arith, omega arith), tt)
+    ((omega arith, omega arith), (one, ((omega arith, omega arith), (one, (one, ((omega arith, omega arith), ((omega arith, omega arith), ((omega arith, omega arith), (one, (one, (six, ((omega arith, omega arith), (eight, (eight, (eight, (one, (eight, (six, (one, (one, (six, (eight, (one, both_listed (words_rules 8 (entries_at f s) (words f s)) _ (words_listed 8 (entries_at f s) (words f s)) ((omega arith, omega arith), tt))))))))))))))))))))))))
 
 walk_listed : (places : ℕ) (s : List ℕ) (at n : ℕ) (seen : List (List ℕ)) → Listed (walk_rules places s at n seen)
 unfolding walk_rules

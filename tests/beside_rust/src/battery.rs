@@ -37,35 +37,17 @@ impl Run {
         self.by_record(bytes, &made_up);
     }
 
-    /// Hashless files allowed and not; with no bound, and under bounds around what it takes.
+    /// Hashless files allowed and not; with no bound, the least that serves, one less, and others.
     pub fn scans(&mut self, bytes: &[u8]) -> Option<Layout> {
         self.scan(bytes, false, None);
-        let bounds = self.some_bounds(bytes, true);
-        self.under_bounds(bytes, true, &bounds)
-    }
-
-    /// The least bound that serves and one less; the least that passes a check and one less, of two
-    /// checks; 0, one near the least, any, and a larger one.
-    pub fn some_bounds(&mut self, bytes: &[u8], allow: bool) -> Vec<usize> {
-        let facts = self.facts;
-        let least = model::scan(bytes, &facts, allow, None)
-            .map_or(bytes.len(), |scanned| scanned.layout.advice_map_offset);
+        let layout = self.scan(bytes, true, None);
+        let exact = layout.map_or(bytes.len(), |l| least_bound(&l));
         let any = self.rng.wide();
-        let more = any.saturating_add(1 + self.rng.below(99));
-        let near = self.rng.below(least.saturating_add(9));
-        let mut bounds = vec![least, least.saturating_sub(1), 0, near, any, more];
-        let limits = model::limits(bytes, &facts, allow);
-        for _ in 0..limits.len().min(2) {
-            let limit = self.rng.one_of(&limits);
-            bounds.extend([limit, limit.saturating_sub(1)]);
+        for bound in [0, exact.wrapping_sub(1), exact, self.rng.below(exact.saturating_add(9)), any]
+        {
+            self.scan(bytes, true, Some(bound));
         }
-        bounds
-    }
-
-    /// Of every check of the bound the least that passes it and one less, and the largest bound.
-    pub fn all_bounds(&self, bytes: &[u8], allow: bool) -> Vec<usize> {
-        let limits = model::limits(bytes, &self.facts, allow);
-        limits.iter().flat_map(|&n| [n, n.saturating_sub(1)]).chain([usize::MAX]).collect()
+        layout
     }
 
     /// The readers and checks over a record, of a scan or made up.
@@ -192,6 +174,14 @@ impl Run {
         let other_facts = make::facts(&mut self.rng);
         self.write(&other_facts, &parts, bytes.len() + 9);
     }
+}
+
+/// The least bound with which a scan of the same file is accepted.
+fn least_bound(l: &Layout) -> usize {
+    let hashes = if l.node_hash_offset.is_some() { 32 * l.internal_node_count } else { 0 };
+    let sections = l.advice_map_offset - l.basic_block_offset;
+    let needs = [8 * l.node_count, 32 * l.external_node_count, hashes, 4 * l.roots_count, sections];
+    needs.into_iter().max().unwrap_or(0)
 }
 
 fn any_table(rng: &mut Rng, places: usize) -> Vec<u32> {

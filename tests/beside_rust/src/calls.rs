@@ -67,22 +67,12 @@ impl Run {
         self.beside_model(Point::Flags, &input, ours::flags(bytes), model::flags(bytes));
     }
 
-    /// The layout, if the proved code accepts.
+    /// The layout, if the proved code accepts. The number of long counts is held against the model's too.
     pub fn scan(&mut self, bytes: &[u8], allow: bool, bound: Option<usize>) -> Option<Layout> {
-        self.scan_told(bytes, allow, bound).ok().map(|scanned| scanned.layout)
-    }
-
-    /// The proved code's answer. Under a bound it is held against the model's too, since what the bound
-    /// says to the Rust is the shim's; and so is the number of long counts.
-    pub fn scan_told(&mut self, bytes: &[u8], allow: bool, bound: Option<usize>) -> Told<Scanned> {
         let facts = self.facts;
         let input = Input { facts: Some(&facts), bytes, allow, bound, ..Input::default() };
         let ours = ours::scan(bytes, &facts, allow, bound);
-        let by_step = model::scan_by_step(bytes, &facts, allow, bound);
-        let document = by_step.map_err(|stop| stop.refusal);
-        if ours == document {
-            self.lines.note(&by_step, bound);
-        }
+        let document = || model::scan(bytes, &facts, allow, bound);
         let rust = answers::scan(bytes, allow, bound).map(|file| {
             let forms = forms_of_file(bytes, &file);
             if ours.is_ok() {
@@ -90,15 +80,12 @@ impl Run {
             }
             Scanned { layout: file.layout, long: long(&forms) }
         });
-        self.beside_rust(Point::Scan, &input, ours, rust, || document);
-        if bound.is_some() {
-            self.beside_model(Point::ScanBound, &input, ours, document);
-        }
+        self.beside_rust(Point::Scan, &input, ours, rust, document);
         if let Ok(Scanned { long, .. }) = ours {
-            let document = document.map(|scanned| scanned.long);
+            let document = document().map(|scanned| scanned.long);
             self.beside_model(Point::ScanLong, &input, Ok(long), document);
         }
-        ours
+        ours.ok().map(|scanned| scanned.layout)
     }
 
     // BY INDEX

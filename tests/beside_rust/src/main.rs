@@ -5,8 +5,6 @@ mod calls;
 mod forms;
 mod input;
 mod kinds;
-mod laws;
-mod lines;
 mod make;
 mod model;
 mod ours;
@@ -20,7 +18,6 @@ mod run;
 mod short;
 mod slip;
 mod told;
-mod witnesses;
 
 use std::{env, panic, process::ExitCode};
 
@@ -102,7 +99,6 @@ fn slip_named(name: &str) -> Option<Task> {
 /// The whole comparison; true if nothing is unlisted and all was met that must be.
 fn compared(rounds: u64, counts: u64, seed: u64) -> bool {
     let mut run = Run::new(seed, None, false);
-    run.all_witnesses();
     run.all_short();
     run.all_forms();
     run.made_up(rounds);

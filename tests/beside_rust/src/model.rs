@@ -1,13 +1,10 @@
 //! Document 01 written down once more, from the paper and its readings, with true numbers (u128)
-//! where the code must watch for overflow; request 2, long counts; and request 5, the falling bound.
-//! It is asked where the published Rust has no such check, and whenever the two part: a listed
-//! difference counts only if the proved code says what this says.
+//! where the code must watch for overflow; and request 2, long counts. It is asked where the published
+//! Rust has no such check, and whenever the two part: a listed difference counts only if the proved
+//! code says what this says.
 use std::collections::BTreeSet;
 
-use crate::{
-    lines::{Step, Stop, stop},
-    told::*,
-};
+use crate::told::*;
 
 pub const MODULUS: u64 = 18_446_744_069_414_584_321;
 const TOP: u128 = u64::MAX as u128;
@@ -25,7 +22,7 @@ pub fn read_count(bytes: &[u8], at: usize) -> Told<Count> {
     let Some(&first) = rest.first() else {
         return refuse(SHORT, at);
     };
-    let len = len_told(first);
+    let len = (0..8).find(|bit| first >> bit & 1 == 1).map_or(9, |zeros| zeros + 1);
     let Some(whole) = rest.get(..len) else {
         return refuse(SHORT, at);
     };
@@ -33,11 +30,6 @@ pub fn read_count(bytes: &[u8], at: usize) -> Told<Count> {
     // Of nine bytes the first is no part of the number; of fewer, the low bits tell the length.
     let value = (if len == 9 { number >> 8 } else { number >> len }) as u64;
     Ok(Count { value, len, next: at + len, shortest: shortest_form(value) == whole })
-}
-
-/// How many bytes a count has by its first one.
-fn len_told(first: u8) -> usize {
-    (0..8).find(|bit| first >> bit & 1 == 1).map_or(9, |zeros| zeros + 1)
 }
 
 /// How many of some counts are long.
@@ -137,141 +129,76 @@ pub fn flags(bytes: &[u8]) -> Told<u8> {
 }
 
 pub fn scan(bytes: &[u8], f: &Facts, allow: bool, bound: Option<usize>) -> Told<Scanned> {
-    scan_by_step(bytes, f, allow, bound).map_err(|stop| stop.refusal)
-}
-
-/// The same, and of a refusal its step too.
-pub fn scan_by_step(
-    bytes: &[u8],
-    f: &Facts,
-    allow: bool,
-    bound: Option<usize>,
-) -> Result<Scanned, Stop> {
-    ask(is_format(f), Step::Facts, FORMAT, 0)?;
-    Reader::new(bytes, bound).scan(f, allow)
+    need(is_format(f), FORMAT, 0)?;
+    scan_unjudged(bytes, f, allow, bound)
 }
 
 /// The scan under facts that may be no format.
 pub fn scan_unjudged(bytes: &[u8], f: &Facts, allow: bool, bound: Option<usize>) -> Told<Scanned> {
-    Reader::new(bytes, bound).scan(f, allow).map_err(|stop| stop.refusal)
-}
+    let there = |at: usize, len: u128| need(at as u128 + len <= bytes.len() as u128, SHORT, at);
+    let within = |count: u128, size: usize, place: usize| {
+        need(bound.is_none_or(|n| count <= (n / size) as u128), BUDGET, place)
+    };
+    there(0, 4)?;
+    need(bytes[..4] == f.magic, MAGIC, 0)?;
+    there(4, 1)?;
+    there(5, 3)?;
+    need(bytes[5..8] == f.version, VERSION, 5)?;
+    need(bytes[4] & f.reserved == 0, FLAGS, 4)?;
+    let hashless = bytes[4] & f.hashless != 0;
+    need(allow || !hashless, HASHLESS, 4)?;
 
-/// Of each check of the bound that these bytes come to, the least n that passes it.
-pub fn limits(bytes: &[u8], f: &Facts, allow: bool) -> Vec<usize> {
-    let mut reader = Reader::new(bytes, None);
-    let _ = reader.scan(f, allow);
-    reader.limits.iter().filter_map(|&n| n.try_into().ok()).collect()
-}
-
-fn ask(holds: bool, step: Step, number: u8, place: usize) -> Result<(), Stop> {
-    if holds { Ok(()) } else { stop(step, number, place) }
-}
-
-/// Reads a file once, from its first byte on. With a bound, the same sum pays for what is read and
-/// limits what may be allocated.
-struct Reader<'a> {
-    /// What is not read yet.
-    rest: &'a [u8],
-    /// How many bytes were read.
-    at: usize,
-    /// What is left of n; none where there is no bound.
-    left: Option<usize>,
-    limits: Vec<u128>,
-}
-
-impl<'a> Reader<'a> {
-    fn new(bytes: &'a [u8], bound: Option<usize>) -> Self {
-        Self { rest: bytes, at: 0, left: bound, limits: Vec::with_capacity(16) }
+    let internal_count = read_count(bytes, 8)?;
+    let external_count_at = internal_count.next;
+    let external_count = read_count(bytes, external_count_at)?;
+    let (internal, external) = (internal_count.value, external_count.value);
+    let nodes = internal as u128 + external as u128;
+    need(nodes <= TOP, OVERFLOW, 8)?;
+    need(nodes <= f.max_nodes as u128, TOO_MANY, 8)?;
+    within(nodes, 8, 8)?;
+    within(external as u128, 32, 8)?;
+    if !hashless {
+        within(internal as u128, 32, 8)?;
     }
 
-    /// What is left of n has room for so many things of this size.
-    fn room(&mut self, step: Step, count: u128, size: usize, place: usize) -> Result<(), Stop> {
-        self.limits.push(self.at as u128 + count * size as u128);
-        let enough = self.left.is_none_or(|left| count <= (left / size) as u128);
-        ask(enough, step, BUDGET, place)
+    let roots_count_at = external_count.next;
+    let roots_count = read_count(bytes, roots_count_at)?;
+    let (roots, roots_at) = (roots_count.value, roots_count.next);
+    within(roots as u128, 4, roots_count_at)?;
+    need(4 * roots as u128 <= TOP, OVERFLOW, roots_count_at)?;
+    there(roots_at, 4 * roots as u128)?;
+    let length_at = roots_at + 4 * roots as usize;
+    let length = read_count(bytes, length_at)?;
+    let (blocks, blocks_at) = (length.value, length.next);
+    let hashes = if hashless { 0 } else { 32 * internal as u128 };
+    let sections = blocks as u128 + 8 * nodes + 32 * external as u128 + hashes;
+    need(sections <= TOP, OVERFLOW, length_at)?;
+    within(sections, 1, length_at)?;
+    there(blocks_at, sections)?;
+
+    let entries_at = blocks_at + blocks as usize;
+    let nodes = nodes as usize;
+    let mut externals = 0;
+    for i in 0..nodes {
+        let at = entries_at + 8 * i;
+        externals += (decode_entry(le64(&bytes[at..at + 8]), at)? == Entry::External) as u64;
     }
-
-    /// One read: its bytes must be left of n, then of the file, and n falls by them.
-    fn read(&mut self, step: Step, len: u128) -> Result<&'a [u8], Stop> {
-        self.room(step, len, 1, self.at)?;
-        ask(len <= self.rest.len() as u128, step, SHORT, self.at)?;
-        let (part, rest) = self.rest.split_at(len as usize);
-        self.rest = rest;
-        self.at += part.len();
-        self.left = self.left.map(|left| left - part.len());
-        Ok(part)
-    }
-
-    /// A count is one read of all its bytes; where no byte is left to tell how many, of one.
-    fn count(&mut self, step: Step) -> Result<Count, Stop> {
-        let len = self.rest.first().map_or(1, |&first| len_told(first));
-        let whole = self.read(step, len as u128)?;
-        Ok(read_count(whole, 0).expect("a whole count"))
-    }
-
-    fn scan(&mut self, f: &Facts, allow: bool) -> Result<Scanned, Stop> {
-        let magic = self.read(Step::Magic, 4)?;
-        ask(magic == f.magic, Step::Magic, MAGIC, 0)?;
-        let flags = self.read(Step::Flags, 1)?[0];
-        let version = self.read(Step::Version, 3)?;
-        ask(version == f.version, Step::Version, VERSION, 5)?;
-        ask(flags & f.reserved == 0, Step::Flags, FLAGS, 4)?;
-        let hashless = flags & f.hashless != 0;
-        ask(allow || !hashless, Step::Flags, HASHLESS, 4)?;
-
-        let internal_count = self.count(Step::InternalCount)?;
-        let external_count_at = self.at;
-        let external_count = self.count(Step::ExternalCount)?;
-        let (internal, external) = (internal_count.value as u128, external_count.value as u128);
-        let nodes = internal + external;
-        ask(nodes <= TOP, Step::Nodes, OVERFLOW, 8)?;
-        ask(nodes <= f.max_nodes as u128, Step::Nodes, TOO_MANY, 8)?;
-        self.room(Step::Nodes, nodes, 8, 8)?;
-        self.room(Step::Externals, external, 32, 8)?;
-        if !hashless {
-            self.room(Step::Internals, internal, 32, 8)?;
-        }
-
-        let roots_count_at = self.at;
-        let roots_count = self.count(Step::RootsCount)?;
-        let (roots, roots_at) = (roots_count.value as u128, self.at);
-        self.room(Step::RootsCounted, roots, 4, roots_count_at)?;
-        ask(4 * roots <= TOP, Step::RootsCounted, OVERFLOW, roots_count_at)?;
-        self.read(Step::Roots, 4 * roots)?;
-        let length_at = self.at;
-        let length = self.count(Step::BlockLength)?;
-        let (blocks, blocks_at) = (length.value as usize, self.at);
-        let hashes = if hashless { 0 } else { 32 * internal };
-        let sum = blocks as u128 + 8 * nodes + 32 * external + hashes;
-        ask(sum <= TOP, Step::SectionsSum, OVERFLOW, length_at)?;
-        self.room(Step::SectionsSum, sum, 1, length_at)?;
-        let sections = self.read(Step::Sections, sum)?;
-
-        let nodes = nodes as usize;
-        let entries_at = blocks_at + blocks;
-        let mut externals = 0;
-        for (i, word) in sections[blocks..].chunks(8).take(nodes).enumerate() {
-            let entry = decode_entry(le64(word), entries_at + 8 * i)
-                .map_err(|refusal| Stop { step: Step::Entries, refusal })?;
-            externals += (entry == Entry::External) as u128;
-        }
-        ask(externals == external, Step::ExternalsMet, EXTERNALS, external_count_at)?;
-        let externals_at = entries_at + 8 * nodes;
-        let layout = Layout {
-            node_count: nodes,
-            internal_node_count: internal as usize,
-            external_node_count: external as usize,
-            roots_count: roots as usize,
-            roots_offset: roots_at,
-            basic_block_offset: blocks_at,
-            basic_block_len: blocks,
-            node_entry_offset: entries_at,
-            external_digest_offset: externals_at,
-            node_hash_offset: (!hashless).then_some(externals_at + 32 * external as usize),
-            advice_map_offset: self.at,
-        };
-        Ok(Scanned { layout, long: long(&[internal_count, external_count, roots_count, length]) })
-    }
+    need(externals == external, EXTERNALS, external_count_at)?;
+    let externals_at = entries_at + 8 * nodes;
+    let layout = Layout {
+        node_count: nodes,
+        internal_node_count: internal as usize,
+        external_node_count: external as usize,
+        roots_count: roots as usize,
+        roots_offset: roots_at,
+        basic_block_offset: blocks_at,
+        basic_block_len: blocks as usize,
+        node_entry_offset: entries_at,
+        external_digest_offset: externals_at,
+        node_hash_offset: (!hashless).then_some(externals_at + 32 * external as usize),
+        advice_map_offset: blocks_at + sections as usize,
+    };
+    Ok(Scanned { layout, long: long(&[internal_count, external_count, roots_count, length]) })
 }
 
 // BY INDEX

@@ -51,8 +51,8 @@ impl Run {
     fn files_in_every_form(&mut self) {
         for lens in tuples::<4>() {
             let file = file([1, 1, 1, 1], lens);
-            let bounds = self.all_bounds(&file, true);
-            self.under_bounds(&file, true, &bounds);
+            self.scan(&file, true, None);
+            self.scan(&file, true, Some(file.len()));
             self.scan(&file, false, None);
             self.scan(&file[..file.len() - 1], true, None);
             self.scan(&refused_last(&file), true, None);
@@ -72,7 +72,8 @@ impl Run {
                     let (mut numbers, mut lens) = ([0; 4], [1; 4]);
                     (numbers[counted], lens[counted]) = (n, len);
                     let file = file(numbers, lens);
-                    self.under_bounds(&file, true, &[n, file.len() - 1, file.len()]);
+                    self.scan(&file, true, None);
+                    self.scan(&file, true, Some(n));
                     self.scan(&file[..file.len() - 1], true, None);
                 }
             }
@@ -128,9 +129,9 @@ impl Run {
             let file = make::file_with(&mut self.rng, &facts, most_nodes, make::half_padded);
             let damaged = make::damaged(&mut self.rng, &file);
             for file in [&file, &damaged] {
-                let allow = self.rng.percent(70);
-                let bounds = self.some_bounds(file, allow);
-                self.under_bounds(file, allow, &bounds);
+                self.scan(file, true, None);
+                let (allow, bound) = (self.rng.percent(50), self.rng.below(file.len() + 9));
+                self.scan(file, allow, Some(bound));
             }
             let entries = self.rng.below(if round.is_multiple_of(100) { 300 } else { 6 });
             let at = self.rng.below(4);

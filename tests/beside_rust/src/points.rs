@@ -26,9 +26,6 @@ points! {
     Flags "flags",
     Scan "scan",
     ScanLong "scan, long counts",
-    ScanBound "scan, bound",
-    ScanLaws "scan, laws of the bound",
-    ScanWitness "scan, witnesses",
     Root "root",
     Entry "entry",
     Children "children",
@@ -61,13 +58,13 @@ impl Point {
             Point::ReadCount => &[SHORT],
             Point::ShortestLen | Point::Places | Point::HeldWhole => &[],
             // of accepted answers alone
-            Point::ScanLong | Point::ScanLaws | Point::WalkLong => &[],
+            Point::ScanLong | Point::WalkLong => &[],
             Point::WriteCount => &[ROOM],
             Point::DecodeEntry => &[TAG, PAYLOAD],
             Point::EncodeEntry => &[PAYLOAD],
             Point::EncodeRow => &[INDEX, PAYLOAD],
             Point::Flags => &[SHORT],
-            Point::Scan | Point::ScanBound | Point::ScanWitness => &[
+            Point::Scan => &[
                 FORMAT, SHORT, MAGIC, VERSION, FLAGS, HASHLESS, OVERFLOW, TOO_MANY, BUDGET, TAG,
                 PAYLOAD, EXTERNALS,
             ],

@@ -11,9 +11,6 @@ const BYTES: [u8; 12] = [0, 1, 2, 3, 4, 5, 7, 9, 0x10, 0x80, 0xFE, 0xFF];
 /// So many counts of each length with each number of bytes left: 1,134,000 in all.
 const COUNTS_OF_EACH: usize = 6_000;
 
-/// Two bounds for each of the last three checks, and the largest.
-const LAST_BOUNDS: usize = 7;
-
 impl Run {
     pub fn all_short(&mut self) {
         self.short_counts();
@@ -147,16 +144,11 @@ impl Run {
     fn file_at_its_boundaries(&mut self, file: &[u8]) {
         for at in boundaries(self, file) {
             each_string(&mut |string| {
-                let changed = put_at(file, at, string);
-                for changed in &changed {
-                    self.scan(changed, false, None);
-                    self.scan(changed, true, None);
-                    self.scan(changed, true, Some(file.len()));
+                for changed in put_at(file, at, string) {
+                    self.scan(&changed, false, None);
+                    self.scan(&changed, true, None);
+                    self.scan(&changed, true, Some(file.len()));
                 }
-                // as the end, which cuts a read: the checks that come last
-                let bounds = self.all_bounds(&changed[0], true);
-                let last = bounds.len().saturating_sub(LAST_BOUNDS);
-                self.under_bounds(&changed[0], true, &bounds[last..]);
             });
             for pair in 0..=u16::MAX {
                 let [end, over, _] = put_at(file, at, &pair.to_le_bytes());
@@ -167,17 +159,11 @@ impl Run {
     }
 
     fn file_under_every_bound(&mut self, file: &[u8]) {
-        let bounds: Vec<usize> = (0..=400).chain(usize::MAX - 20..=usize::MAX).collect();
-        self.under_bounds(file, false, &bounds);
-        if let Some(l) = self.under_bounds(file, true, &bounds) {
-            for bound in bounds {
+        for bound in 0..=400 {
+            self.scan(file, false, Some(bound));
+            if let Some(l) = self.scan(file, true, Some(bound)) {
                 self.slots(file, &l, Some(bound), l.node_count);
             }
-        }
-        // cut at each byte, whatever the bound
-        for end in 0..file.len() {
-            let bounds: Vec<usize> = (0..end + 12).collect();
-            self.under_bounds(&file[..end], true, &bounds);
         }
     }
 

@@ -1,7 +1,6 @@
 //! Slips put into the proved code's answers on purpose, to see that the comparison notices: one
 //! answer of one entry point is spoilt, and the run must then fail.
 use crate::{
-    laws::Under,
     points::Point,
     told::{
         Count, Entry, Looked, MapEntry, Part, Parts, Refusal, Scanned, Slots, Told, Walked, refuse,
@@ -125,7 +124,6 @@ spoil! {
     MapEntry: |e| e.values += 1;
     Part: |part| *part = if part.is_none() { Some((0, Vec::new())) } else { None };
     Vec<u8>: |file| file.push(0);
-    Vec<(usize, Under)>: |answers| answers[0].1 = Under::Other;
     Scanned: |s| s.layout.external_digest_offset += 1, long: s.long += 1;
     Entry: |e| *e = if *e == Entry::Dyn { Entry::Dyncall } else { Entry::Dyn };
     Looked: |l| l.compared += 1;

@@ -100,10 +100,8 @@ pub static CHOICES: [Choice; 7] = [
     choice(
         "--bound",
         "BYTES",
-        "BYTES is one sum for reading and allocating, and falls as bytes are read. A\n\
-         read of more than is left of it is refused (BUDGET), and so is a count of\n\
-         more things than fit into what is left. The least that serves a file is\n\
-         where its map begins; its length always serves.",
+        "A count above BYTES divided by the size of what it counts is refused\n\
+         (BUDGET); block data, entries and digests together count as one.",
     ),
     Choice {
         of: "nodes",

@@ -2,38 +2,34 @@
 -- Assumes nothing.
 use borrow.Author.Rules.{rules}
 use Rattle.wire.specs.Table.{first_met}
-use Rattle.layout.proofs.Tests.{header}
+use Rattle.wire.proofs.Ladder.{ladder}
 use Rattle.layout.specs.Steps.{preamble_rules}
 use Rattle.layout.proofs.scan.check_preamble.Statement.{statement}
 use Rattle.layout.proofs.scan.check_preamble.Tie as tie
 
 returns : tie.Need-returns
 unfolding first_met preamble_rules
-returns c = search header depth 14
+returns c = search ladder depth 12
 
 returns_2 : tie.Need-returns-2
 unfolding first_met preamble_rules
-returns_2 c = search header depth 14
+returns_2 c = search ladder depth 12
 
 returns_3 : tie.Need-returns-3
 unfolding first_met preamble_rules
-returns_3 c = search header depth 14
+returns_3 c = search ladder depth 12
 
 returns_4 : tie.Need-returns-4
 unfolding first_met preamble_rules
-returns_4 c = search header depth 14
+returns_4 c = search ladder depth 12
 
 returns_5 : tie.Need-returns-5
 unfolding first_met preamble_rules
-returns_5 c = search header depth 14
+returns_5 c = search ladder depth 12
 
 returns_6 : tie.Need-returns-6
 unfolding first_met preamble_rules
-returns_6 c = search header depth 14
-
-returns_7 : tie.Need-returns-7
-unfolding first_met preamble_rules
-returns_7 c = search header depth 14
+returns_6 c = search ladder depth 12
 
 pub check_preamble_spec : {M : Type 1} → statement M
 check_preamble_spec =
@@ -41,14 +37,9 @@ check_preamble_spec =
     (tie.spec
     (λ c κs. search rules)
     returns
-    (λ c κs. search rules)
     returns_2
+    (λ c κs. search rules)
     returns_3
-    (λ c κs. search rules)
     returns_4
-    (λ c κs. search rules)
     returns_5
-    (λ c κs. search rules)
-    (λ c κs. search rules)
-    returns_6
-    returns_7)
+    returns_6)

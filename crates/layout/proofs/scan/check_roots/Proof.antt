@@ -9,19 +9,19 @@ use Rattle.layout.proofs.scan.check_roots.Tie as tie
 
 returns : tie.Need-returns
 unfolding first_met root_section_rules
-returns c = search tests depth 14
+returns c = search tests depth 12
 
 returns_2 : tie.Need-returns-2
 unfolding first_met root_section_rules
-returns_2 c = search tests depth 14
+returns_2 c = search tests depth 12
 
 returns_3 : tie.Need-returns-3
 unfolding first_met root_section_rules
-returns_3 c = search tests depth 14
+returns_3 c = search tests depth 12
 
 returns_4 : tie.Need-returns-4
 unfolding first_met root_section_rules
-returns_4 c = search tests depth 14
+returns_4 c = search tests depth 12
 
 pub check_roots_spec : {M : Type 1} → statement M
 check_roots_spec =

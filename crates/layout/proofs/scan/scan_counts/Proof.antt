@@ -1,4 +1,4 @@
--- `layout::scan::scan_counts` meets its contract: each `return` follows from what the stages before it said.
+-- `layout::scan::scan_counts` meets its contract: each arm follows from what the stages before it said.
 -- Assumes nothing.
 use borrow.Author.Rules.{rules}
 use Rattle.layout.specs.Steps.{counts_outcome}
@@ -18,35 +18,17 @@ returns_3 : tie.Need-returns-3
 unfolding counts_outcome
 returns_3 c = search stages
 
-returns_4 : tie.Need-returns-4
-unfolding counts_outcome
-returns_4 c = search stages
-
-returns_5 : tie.Need-returns-5
-unfolding counts_outcome
-returns_5 c = search stages
-
 pub scan_counts_spec : {M : Type 1} → statement M
 scan_counts_spec =
     tie.close
     (tie.spec
     (λ c κs. search rules)
     (λ c. search rules)
-    (λ c κs. search rules)
     (λ c. search rules)
     (λ c κs. search rules)
     (λ c. search rules)
-    (λ c κs. search rules)
     (λ c. search rules)
     (λ c κs. search rules)
-    (λ c. search rules)
     returns
-    (λ c. search rules)
-    (λ c κs. search rules)
-    (λ c. search rules)
     returns_2
-    (λ c. search rules)
-    (λ c κs. search rules)
-    returns_3
-    returns_4
-    returns_5)
+    returns_3)

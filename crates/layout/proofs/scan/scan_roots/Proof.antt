@@ -18,29 +18,20 @@ returns_3 : tie.Need-returns-3
 unfolding roots_outcome
 returns_3 c = search stages
 
-returns_4 : tie.Need-returns-4
-unfolding roots_outcome
-returns_4 c = search stages
-
 pub scan_roots_spec : {M : Type 1} → statement M
 scan_roots_spec =
     tie.close
     (tie.spec
     (λ c κs. search rules)
     (λ c. search rules)
-    (λ c κs. search rules)
     (λ c. search rules)
     (λ c κs. search rules)
     (λ c. search rules)
     returns
     (λ c. search rules)
-    (λ c κs. search rules)
-    (λ c. search rules)
-    returns_2
-    (λ c. search rules)
     (λ c κs.
     let k = c.before.before in
-    let a = k.before.before.before.before.before.before.before.before.before.before.before in
-    (a.requires, roots_inside k.check-roots.result a.args.bound _ _ _ a.args.s.now c.enum-told2.given.1 k.check-roots.ensures))
-    returns_3
-    returns_4)
+    let a = k.before.before.before.before.before.before.before.before in
+    (a.requires, roots_inside k.check-roots.result a.args.bound _ _ _ a.args.s.now c.enum_told.given.1 k.check-roots.ensures))
+    returns_2
+    returns_3)

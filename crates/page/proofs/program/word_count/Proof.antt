@@ -6,7 +6,7 @@ use Prim.Native.Nat.{◌+◌, ◌-◌, ◌≤◌}
 use native.Mathlib.Omega.{arith}
 use lib.ListN.{length, drop}
 use Rattle.page.specs.Program.{word_count}
-use Rattle.page.proofs.ProgramLaws.{count_here, count_on_lem, count_none}
+use Rattle.page.proofs.ProgramLaws.{count_here, count_on, count_none}
 use Rattle.page.proofs.program.word_count.Statement.{statement}
 use Rattle.page.proofs.program.word_count.Tie as tie
 
@@ -23,7 +23,7 @@ loop_again c =
     let inside = c.before.before.loop-test.true in
     ⊎_elim
     (λ w. omega (arith, count_here words h.loop.i inside w.0.taken))
-    (λ w. omega (arith, count_on_lem words h.loop.i inside w.0.left))
+    (λ w. omega (arith, count_on words h.loop.i inside w.0.left))
     c.if1.branch
 
 returns : tie.Need-returns invariant_loop decreases_loop

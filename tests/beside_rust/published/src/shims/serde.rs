@@ -1,5 +1,5 @@
 //! SHIM for `crate::serde` (miden-serde-utils). The names and signatures are those that the
-//! published files call; the behaviour is document 01's, and of the bound request 5's.
+//! published files call; the behaviour is document 01's.
 use super::trace;
 use std::fmt;
 
@@ -123,54 +123,32 @@ impl ByteReader for SliceReader<'_> {
     }
 }
 
-/// Document 02, request 5: what is left of n falls as bytes are read, a read of more is refused, and
-/// a count may be at most floor(left / size).
+/// Document 01: the same n serves every check, floor(n / size).
 pub struct BudgetedReader<R> {
     inner: R,
-    left: usize,
+    bound: usize,
 }
 
 impl<R> BudgetedReader<R> {
     pub fn new(inner: R, bound: usize) -> Self {
-        Self { inner, left: bound }
+        Self { inner, bound }
     }
-
-    #[inline]
-    fn charge(&mut self, len: usize) -> Result<(), DeserializationError> {
-        self.left = self.left.checked_sub(len).ok_or_else(|| beyond(len))?;
-        Ok(())
-    }
-}
-
-/// `answers` knows a refused read by this text.
-#[cold]
-fn beyond(len: usize) -> DeserializationError {
-    DeserializationError::InvalidValue(format!("shim: read of {len} exceeds budget"))
 }
 
 impl<R: ByteReader> ByteReader for BudgetedReader<R> {
     fn read_u8(&mut self) -> Result<u8, DeserializationError> {
-        self.charge(1)?;
         self.inner.read_u8()
     }
 
-    /// Only a count peeks, and pays by the read that follows. Where the file has no byte left there is
-    /// none, and it is a read of one byte.
-    #[inline]
     fn peek_u8(&self) -> Result<u8, DeserializationError> {
-        let peeked = self.inner.peek_u8();
-        if peeked.is_err() && self.left == 0 { Err(beyond(1)) } else { peeked }
+        self.inner.peek_u8()
     }
 
-    #[inline]
     fn read_slice(&mut self, len: usize) -> Result<&[u8], DeserializationError> {
-        self.charge(len)?;
         self.inner.read_slice(len)
     }
 
-    #[inline]
     fn read_array<const N: usize>(&mut self) -> Result<[u8; N], DeserializationError> {
-        self.charge(N)?;
         self.inner.read_array()
     }
 
@@ -183,7 +161,7 @@ impl<R: ByteReader> ByteReader for BudgetedReader<R> {
     }
 
     fn max_alloc(&self, element_size: usize) -> usize {
-        self.left / element_size
+        self.bound / element_size
     }
 }
 

@@ -1,10 +1,9 @@
 //! What the published code answers, in document 01's numbers and places.
 //!
-//! The number comes from the error's kind and text. The place: for SHORT in the scan, and for a read
-//! that the bound refuses, the offset at which the published `TrackingReader` stood; for TAG and
-//! PAYLOAD in the scan and for the map, where the read in question began, as noted by the shim
-//! reader; for a check over the nodes, how many entries were read; else the start of the field that
-//! the text names.
+//! The number comes from the error's kind and text. The place: for SHORT in the scan, the offset
+//! at which the published `TrackingReader` stood; for TAG and PAYLOAD in the scan and for the map,
+//! where the read in question began, as noted by the shim reader; for a check over the nodes, how
+//! many entries were read; else the start of the field that the text names.
 use std::panic;
 
 use super::{
@@ -139,7 +138,6 @@ fn scan_place(e: &Error, stood_at: usize, bytes: &[u8]) -> Option<usize> {
         2 => Some(0),
         3 => Some(5),
         4 | 5 => Some(4),
-        8 if text.starts_with("shim: read") => Some(stood_at),
         6..=8 if text.starts_with("root") => count(2),
         6..=8 if text.starts_with("core payload") => count(3),
         6..=8 => Some(8),
