@@ -16,7 +16,7 @@ const FEW: usize = 0x8000;
 
 // What is known of a key: where its values start and how many elements they are, or that it is absent; and how many keys
 // were compared. A refusal has its place as a plain number: with ROOM it is the n that was given, and no byte offset.
-#[derive(Drop)]
+#[derive(Clone, Copy)]
 pub enum MapLookup {
     Found {
         values: ByteOffset,
@@ -30,7 +30,7 @@ pub enum MapLookup {
 }
 
 // Where the halving ended: at an equal key, without one, or at a key that is not all in the file.
-#[derive(Drop)]
+#[derive(Clone, Copy)]
 enum Probe {
     Met(ByteOffset, usize),
     Missing(usize),
@@ -38,7 +38,7 @@ enum Probe {
 }
 
 // What a halving has left: a range of the table's places, by its first and their number, and the number of keys compared.
-#[derive(Drop)]
+#[derive(Clone, Copy)]
 struct Range {
     low: usize,
     size: usize,
@@ -46,14 +46,14 @@ struct Range {
 }
 
 // What a turn leaves, or that the first elements do not tell.
-#[derive(Drop)]
+#[derive(Clone, Copy)]
 enum Narrowed {
     To(Range),
     Untold,
 }
 
 // Whether some values are all elements, or the place of the first that is none.
-#[derive(Drop)]
+#[derive(Clone, Copy)]
 enum Elements {
     All,
     Refused(Refusal, ByteOffset),

@@ -12,28 +12,28 @@ use wire::word::{WordCheck, read_word};
 
 // Whether there is a key, or why not. A refusal has its place as a plain number: with INDEX it is the place of the table
 // that was asked for, and no byte offset.
-#[derive(Drop)]
+#[derive(Clone, Copy)]
 pub enum KeyAnswer {
     Key,
     Refused(Refusal, usize),
 }
 
 // The answer with the key beside it, all zero where it is refused.
-#[derive(Drop)]
+#[derive(Clone, Copy)]
 pub struct KeyRead {
     pub answer: KeyAnswer,
     pub word: [u64; 4],
 }
 
 // Where the values of an entry start and how many they are, or why there is no entry.
-#[derive(Drop)]
+#[derive(Clone, Copy)]
 pub enum MapEntryAnswer {
     Entry { values: ByteOffset, len: usize },
     Refused(Refusal, usize),
 }
 
 // The answer with the key beside it, all zero where it is refused.
-#[derive(Drop)]
+#[derive(Clone, Copy)]
 pub struct MapEntryRead {
     pub answer: MapEntryAnswer,
     pub word: [u64; 4],

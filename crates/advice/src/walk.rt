@@ -15,35 +15,35 @@ use wire::word::{WordCheck, check_word};
 const LENGTH_MAX: usize = 0x1FFF_FFFF_FFFF_FFFF;
 
 // The number of entries, the place after the map and how many of its counts are long, or why it is none.
-#[derive(Drop)]
+#[derive(Clone, Copy)]
 pub enum MapWalk {
     Walked(usize, Cursor, usize),
     Refused(Refusal, ByteOffset),
 }
 
 // Where an entry's values start and how many they are, or why there are none.
-#[derive(Drop)]
+#[derive(Clone, Copy)]
 pub(crate) enum ValuesRead {
     Whole(ByteOffset, usize),
     Refused(Refusal, ByteOffset),
 }
 
 // The place after an entry and whether its length is the shortest, or why there is none.
-#[derive(Drop)]
+#[derive(Clone, Copy)]
 enum EntryEnd {
     Whole(Cursor, bool),
     Refused(Refusal, ByteOffset),
 }
 
 // Why no more keys are filled in: the map ends, with so many long counts, or something is refused.
-#[derive(Drop)]
+#[derive(Clone, Copy)]
 enum Stop {
     End(Cursor, usize),
     Refused(Refusal, ByteOffset),
 }
 
 // How many keys were filled in, and why no more.
-#[derive(Drop)]
+#[derive(Clone, Copy)]
 struct Filled {
     n: usize,
     stop: Stop,

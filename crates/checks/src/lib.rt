@@ -1,5 +1,7 @@
 // The checks of all nodes: children, order, strict entries. Each reads the nodes from 0 on, one at a
 // time, and judges a node before it reads the next.
+#![tactic(auto)]
+
 ghost use Rattle.std.specs.Prelude.{◌≡◌, [], ◌∷◌};
 ghost use Rattle.wire.specs.Table.{checked};
 ghost use Rattle.info.specs.Node.{children_of};
@@ -17,14 +19,14 @@ use wire::refusal::Refusal;
 use wire::units::ByteOffset;
 
 // Every node is in order, or the first refusal, with the node's number.
-#[derive(Drop)]
+#[derive(Clone, Copy)]
 pub enum NodeCheck {
     Holds,
     Refused(Refusal, usize),
 }
 
 // The class of a node that is not below its predecessor's.
-#[derive(Drop)]
+#[derive(Clone, Copy)]
 enum OrderStep {
     Class(u8),
     Refused(Refusal, usize),

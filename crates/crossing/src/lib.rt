@@ -1,4 +1,6 @@
 // What crosses to C as an array of fixed length, and what it stands for: format facts, layouts, bounds, entries.
+#![tactic(auto)]
+
 ghost use Rattle.std.specs.Prelude.{◌≡◌};
 ghost use Rattle.crossing.specs.Arrays.{facts_of, hashes_of, layout_of, bound_of, hash_flag, hash_place, layout_row, scanned_row, bound_row, entry_row};
 

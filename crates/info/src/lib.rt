@@ -1,5 +1,7 @@
 // The 8-byte node entry: decoded from a word, encoded to one, read at a place of a file. What else is asked of a node is in
 // node.rt. What each function promises is in specs/.
+#![tactic(auto)]
+
 pub mod node;
 
 ghost use Rattle.std.specs.Prelude.{◌≡◌, ◌<◌};
@@ -17,7 +19,7 @@ const ID_LIMIT: u64 = 0x4000_0000;
 
 const SINGLE_LIMIT: u64 = 0x1_0000_0000;
 
-#[derive(Drop)]
+#[derive(Clone, Copy)]
 pub enum MastNodeEntry {
     Join {
         left_child_id: u32,
@@ -46,21 +48,21 @@ pub enum MastNodeEntry {
 }
 
 // The entry of a word, or TAG or PAYLOAD at 0.
-#[derive(Drop)]
+#[derive(Clone, Copy)]
 pub enum Decoded {
     Entry(MastNodeEntry),
     Refused(Refusal, ByteOffset),
 }
 
 // The word of an entry, or PAYLOAD at 0.
-#[derive(Drop)]
+#[derive(Clone, Copy)]
 pub enum Encoded {
     Word(u64),
     Refused(Refusal, ByteOffset),
 }
 
 // An entry together with the next place, or SHORT, TAG or PAYLOAD at the place asked for.
-#[derive(Drop)]
+#[derive(Clone, Copy)]
 pub enum EntryRead {
     Entry(MastNodeEntry, Cursor),
     Refused(Refusal, ByteOffset),

@@ -9,7 +9,7 @@ use crate::MastNodeEntry;
 use wire::refusal::Refusal;
 
 // The children of a node, left first.
-#[derive(Drop)]
+#[derive(Clone, Copy)]
 pub enum Children {
     None,
     One(u32),
@@ -17,7 +17,7 @@ pub enum Children {
 }
 
 // The entry of a kind, or INDEX with a kind that there is not.
-#[derive(Drop)]
+#[derive(Clone, Copy)]
 pub enum EntryMade {
     Entry(MastNodeEntry),
     Refused(Refusal, usize),

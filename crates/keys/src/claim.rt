@@ -6,7 +6,7 @@ ghost use Rattle.keys.specs.Claim.{key_at, claimed, sooner, stepped};
 use wire::word::{WordOrder, word_order};
 
 // What a claim tells: nothing, or that all keys differ, or the first key that is an earlier one again.
-#[derive(Drop)]
+#[derive(Clone, Copy)]
 pub enum Claim {
     Wrong,
     Apart,

@@ -4,7 +4,7 @@ ghost use Rattle.layout.specs.Facts.{bad_format, over_budget};
 ghost use Rattle.layout.specs.Given.{Given};
 
 // The format facts, by value. Nothing here knows any others.
-#[derive(Drop)]
+#[derive(Clone, Copy)]
 pub struct FormatFacts {
     pub magic: [u8; 4],
     pub version: [u8; 3],
@@ -14,7 +14,7 @@ pub struct FormatFacts {
 }
 
 // The allocation bound: none, or so many bytes.
-#[derive(Drop)]
+#[derive(Clone, Copy)]
 pub enum Bound {
     None,
     Bytes(usize),

@@ -3,14 +3,14 @@
 use wire::units::{ByteOffset, Slot};
 
 // Where the node hashes lie; a hashless file has none.
-#[derive(Drop)]
+#[derive(Clone, Copy)]
 pub enum HashSection {
     At(ByteOffset),
     Absent,
 }
 
 // The counts of digest rows are the slots past the last row.
-#[derive(Drop)]
+#[derive(Clone, Copy)]
 pub struct ForestLayout {
     pub node_count: usize,
     pub internal_node_count: Slot,

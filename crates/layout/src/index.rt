@@ -10,7 +10,7 @@ use wire::number::{is_short, u32_at};
 use wire::refusal::Refusal;
 
 // A procedure root, as a node's number, or why there is none, with the index asked for.
-#[derive(Drop)]
+#[derive(Clone, Copy)]
 pub enum RootRead {
     Root(u32),
     Refused(Refusal, usize),

@@ -21,14 +21,14 @@ use wire::units::{ByteOffset, Slot};
 const MAX: usize = 0xFFFF_FFFF_FFFF_FFFF;
 
 // The layout of a file and how many of its four counts are long, or why it is refused.
-#[derive(Drop)]
+#[derive(Clone, Copy)]
 pub enum Scan {
     Accepted(ForestLayout, usize),
     Refused(Refusal, ByteOffset),
 }
 
 // What one stage finds.
-#[derive(Drop)]
+#[derive(Clone, Copy)]
 enum Check {
     Pass,
     Refused(Refusal, ByteOffset),
@@ -36,7 +36,7 @@ enum Check {
 
 // What the header and the two node counts say, and whether these are the shortest; where the external
 // count starts, and where the roots'.
-#[derive(Drop)]
+#[derive(Clone, Copy)]
 struct Head {
     hashless: bool,
     internal: usize,
@@ -48,7 +48,7 @@ struct Head {
 }
 
 // A section: how many things, and where the first one is; and whether their count is the shortest.
-#[derive(Drop)]
+#[derive(Clone, Copy)]
 struct Section {
     count: usize,
     at: ByteOffset,

@@ -6,6 +6,8 @@
 // masks in 2 each, the node maximum in decimal. Wrong words give one line on standard error, and nothing
 // is read. What is said, and where, is the proved function `program` of the crate page, whose types fix the
 // rooms lent here: this file moves bytes.
+#![tactic(auto)]
+
 ghost use Rattle.std.specs.Prelude.{◌≡◌, length};
 
 use libc::{STDERR_FILENO, STDIN_FILENO, STDOUT_FILENO};
@@ -54,7 +56,7 @@ fn read_words(buf: &mut [u8]) -> usize {
 }
 
 // How many bytes were read, or that a read failed.
-#[derive(Drop)]
+#[derive(Clone, Copy)]
 struct Input {
     n: usize,
     failed: bool,

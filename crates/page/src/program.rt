@@ -11,7 +11,7 @@ use text::fill::{TextWritten, text_len, write_filled};
 use text::mark::mark_from;
 
 // The stream, and how many bytes of the lent buffer are to be written to it.
-#[derive(Drop)]
+#[derive(Clone, Copy)]
 pub enum Said {
     Output(usize),
     Error(usize),

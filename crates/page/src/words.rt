@@ -7,14 +7,14 @@ use layout::facts::FormatFacts;
 use text::digits::{NumberWord, hex_byte, hex_wrong, number_of};
 
 // Whether the words were taken, or which is the first wrong one, counted from 1.
-#[derive(Drop)]
+#[derive(Clone, Copy)]
 pub enum WordsCheck {
     Taken,
     Wrong(usize),
 }
 
 // The same with the facts beside it, all zero where a word is wrong.
-#[derive(Drop)]
+#[derive(Clone, Copy)]
 pub struct FactsRead {
     pub answer: WordsCheck,
     pub facts: FormatFacts,

@@ -6,6 +6,8 @@
 //
 // Limits: 3,000,000 bytes of text, 98,304 of a file, 4,096 numbers given and lent, 8,192 recorded. A case
 // beyond them does not agree.
+#![tactic(auto)]
+
 use libc::{STDIN_FILENO, STDOUT_FILENO};
 
 mod arrays;

@@ -7,7 +7,7 @@ ghost use Rattle.recorded.specs.Inner.{CutAt, NumberAt};
 use text::mark::mark_from;
 
 // Where what is before the first mark ends, and where what is past it begins.
-#[derive(Drop)]
+#[derive(Clone, Copy)]
 pub(crate) struct Halves {
     pub(crate) end: usize,
     pub(crate) rest: usize,
@@ -24,7 +24,7 @@ pub(crate) fn cut(l: &[u8], mark: u8) -> Halves
 }
 
 // A number and where the next begins; not whole where there is none.
-#[derive(Drop)]
+#[derive(Clone, Copy)]
 pub(crate) struct Parsed {
     pub(crate) whole: bool,
     pub(crate) value: u64,
@@ -79,7 +79,7 @@ fn number_at(l: &[u8], at: usize) -> Parsed
 }
 
 // How many numbers are at the start of a buffer, unless not all of them are.
-#[derive(Drop)]
+#[derive(Clone, Copy)]
 pub(crate) struct Numbers {
     pub(crate) whole: bool,
     pub(crate) count: usize,

@@ -9,7 +9,7 @@ use crate::lists::to_bytes;
 use crate::reading::{Numbers, cut, numbers_of};
 
 // How many agreed, and the line that was the last, counted from 1; 0 where all lines were read.
-#[derive(Drop)]
+#[derive(Clone, Copy)]
 pub(crate) struct Counted {
     pub(crate) agreed: u64,
     pub(crate) lost: u64,

@@ -1,1 +1,2 @@
 // A crate of theorems: see proofs/. It has no code.
+#![tactic(auto)]

@@ -15,14 +15,14 @@ use wire::units::{ByteOffset, Slot};
 use wire::word::{WordCheck, read_word};
 
 // Whether there is a digest, or the first refusal, with the node asked for or reached.
-#[derive(Drop)]
+#[derive(Clone, Copy)]
 pub enum DigestAnswer {
     Digest,
     Refused(Refusal, usize),
 }
 
 // The answer with the digest beside it, all zero where it is refused.
-#[derive(Drop)]
+#[derive(Clone, Copy)]
 pub struct DigestRead {
     pub answer: DigestAnswer,
     pub word: [u64; 4],

@@ -16,7 +16,7 @@ use wire::units::ByteOffset;
 const MAX_NODES: usize = 0x4000_0000;
 
 // The table is filled, and this is what is left of the bound; or the first refusal.
-#[derive(Drop)]
+#[derive(Clone, Copy)]
 pub enum SlotsBuilt {
     Filled(Bound),
     Refused(Refusal, usize),

@@ -2,6 +2,8 @@
 // entries, of a file or of words. The pass is quick where nothing is wrong: strips of rows are surveyed
 // without a branch, and the plain loop goes on from the first strip in doubt, so a doubt costs time and
 // never truth.
+#![tactic(auto)]
+
 ghost use Rattle.std.specs.Prelude.{◌≡◌, ◌+◌, ◌*◌, ◌/◌, ◌%◌, ◌^◌, ◌<◌, ◌≤◌, length};
 ghost use Rattle.wire.specs.Le.{le_at};
 ghost use Rattle.rows.specs.Rows.{row_place, row_outcome, word_read, external_one, entry_pass, Begun, Sound, Narrow, beside, Clear};
@@ -18,28 +20,28 @@ const MAX: usize = 0xFFFF_FFFF_FFFF_FFFF;
 const STRIP: usize = 4096;
 
 // Where a row starts, or that its end is above 2^64 - 1.
-#[derive(Drop)]
+#[derive(Clone, Copy)]
 pub enum RowPlace {
     At(ByteOffset),
     Over,
 }
 
 // The entry in a row, or why there is none, with the row's number.
-#[derive(Drop)]
+#[derive(Clone, Copy)]
 pub enum RowEntry {
     Entry(MastNodeEntry),
     Refused(Refusal, usize),
 }
 
 // Every row has an entry, so many of them External; or the first refusal, with the row's number.
-#[derive(Drop)]
+#[derive(Clone, Copy)]
 pub enum EntryPass {
     Clean(usize),
     Refused(Refusal, usize),
 }
 
 // What a survey says: every row has an entry, so many of them External; or nothing.
-#[derive(Drop)]
+#[derive(Clone, Copy)]
 enum Survey {
     Clean(u32),
     Doubtful,

@@ -5,7 +5,7 @@ ghost use Rattle.text.specs.Digits.{hex_digit, hex_byte, hex_wrong, number_of_wo
 const MAX: usize = 0xFFFF_FFFF_FFFF_FFFF;
 
 // What a word says in decimal.
-#[derive(Drop)]
+#[derive(Clone, Copy)]
 pub enum NumberWord {
     Number(usize),
     Wrong,

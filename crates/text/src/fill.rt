@@ -13,7 +13,7 @@ const HOLE: u8 = 35;
 const LONGEST: usize = 0x0800_0000_0000_0000;
 
 // How many bytes were written; or ROOM with the bytes needed, or OVERFLOW with the bytes of a text too long.
-#[derive(Drop)]
+#[derive(Clone, Copy)]
 pub enum TextWritten {
     Written(usize),
     Refused(Refusal, usize),

@@ -1,6 +1,8 @@
 // The exported functions: each asks one function of the crates below, over arrays of fixed length and lent slices, and stores what it says.
 // Returned is 0, and the lent answer holds the answer; or a refusal's number, and the lent place holds its place. What is not stored stays as
 // it was. A function that takes a slice has `raw` in its name: the C header's functions without it also take a null pointer of length 0.
+#![tactic(auto)]
+
 mod answer;
 pub mod counts;
 pub mod digests;

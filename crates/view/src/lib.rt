@@ -1,6 +1,8 @@
 // A view of a file: its bytes beside the layout, which is any record. Each reader takes the view apart
 // and calls the reader of the bytes and the layout, so it promises what that one promises. The functions
 // below them take the bytes and the layout, make a view and read through it: their callers see no view.
+#![tactic(auto)]
+
 ghost use Rattle.std.specs.Prelude.{◌≡◌};
 ghost use Rattle.layout.specs.Index.{root_outcome, node_outcome};
 ghost use Rattle.rows.specs.Shown.{shown_row};
@@ -13,7 +15,7 @@ use layout::index::{RootRead, read_node_entry_at, read_procedure_root_at};
 use resolved::digests::{DigestRead, digest_by_counting};
 use rows::RowEntry;
 
-#[derive(Drop)]
+#[derive(Clone, Copy)]
 pub struct ForestView<'a> {
     pub bytes: &'a [u8],
     pub layout: ForestLayout,

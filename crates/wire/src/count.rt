@@ -11,7 +11,7 @@ use crate::refusal::Refusal;
 use crate::units::{ByteOffset, Cursor};
 
 // A count as it stands in a file: what it says, in how many bytes, and whether no fewer would do.
-#[derive(Drop)]
+#[derive(Clone, Copy)]
 pub struct Count {
     pub value: u64,
     pub len: usize,
@@ -19,21 +19,21 @@ pub struct Count {
 }
 
 // A count with the place after it, or why there is none.
-#[derive(Drop)]
+#[derive(Clone, Copy)]
 pub enum CountRead {
     Whole(Count, Cursor),
     Refused(Refusal, ByteOffset),
 }
 
 // What a count says, in how many bytes and whether no fewer would do, or that it is not whole.
-#[derive(Drop)]
+#[derive(Clone, Copy)]
 enum Found {
     Whole(u64, usize, bool),
     Short,
 }
 
 // The place after a count that was written, or why it was not.
-#[derive(Drop)]
+#[derive(Clone, Copy)]
 pub enum CountWritten {
     Written(Cursor),
     Refused(Refusal, ByteOffset),

@@ -7,7 +7,7 @@ use crate::refusal::Refusal;
 use crate::units::{ByteOffset, Cursor};
 
 // A number with the place after it, or why there is none.
-#[derive(Drop)]
+#[derive(Clone, Copy)]
 pub enum NumberRead {
     Whole(u64, Cursor),
     Refused(Refusal, ByteOffset),

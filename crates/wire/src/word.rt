@@ -10,21 +10,21 @@ use crate::units::{ByteOffset, Cursor};
 const MODULUS: u64 = 18446744069414584321;
 
 // Whether a word stands at a place: the place after it, or why not.
-#[derive(Drop)]
+#[derive(Clone, Copy)]
 pub enum WordCheck {
     Whole(Cursor),
     Refused(Refusal, ByteOffset),
 }
 
 // The same with the word beside it, all zero where it is refused.
-#[derive(Drop)]
+#[derive(Clone, Copy)]
 pub struct WordRead {
     pub answer: WordCheck,
     pub word: [u64; 4],
 }
 
 // How one word stands to another.
-#[derive(Drop)]
+#[derive(Clone, Copy)]
 pub enum WordOrder {
     Below,
     Same,

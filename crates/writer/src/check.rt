@@ -12,14 +12,14 @@ use layout::facts::{FormatFacts, bad_format};
 use rows::{EntryPass, read_words};
 use wire::refusal::Refusal;
 
-#[derive(Drop)]
+#[derive(Clone, Copy)]
 pub(crate) enum PartsCheck {
     Fit,
     Refused(Refusal, usize),
 }
 
 // The nodes are in order, so many of them External.
-#[derive(Drop)]
+#[derive(Clone, Copy)]
 pub(crate) enum Nodes {
     Counted(usize),
     Refused(Refusal, usize),

@@ -16,7 +16,7 @@ use wire::count::shortest_len;
 use wire::refusal::Refusal;
 
 // The length of the file that was written, or the refusal with its place.
-#[derive(Drop)]
+#[derive(Clone, Copy)]
 pub enum ForestWrite {
     Written(usize),
     Refused(Refusal, usize),

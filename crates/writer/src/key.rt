@@ -15,7 +15,7 @@ use wire::refusal::Refusal;
 use wire::word::{WordOrder, is_element, word_order};
 
 // How a key stands to those before it.
-#[derive(Drop)]
+#[derive(Clone, Copy)]
 enum Standing {
     Highest,
     Between,

@@ -1,4 +1,6 @@
 // The writer: from lent parts, the shortest file that shows them.
+#![tactic(auto)]
+
 mod check;
 pub mod file;
 mod group;

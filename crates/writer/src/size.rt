@@ -8,7 +8,7 @@ ghost use Rattle.writer.specs.Inner.{sum_of, plus_of, counts_size, file_size};
 use wire::count::shortest_len;
 
 // A sum of sizes, where it is below 2^64.
-#[derive(Drop)]
+#[derive(Clone, Copy)]
 pub(crate) enum Sum {
     Is(usize),
     Over,
