@@ -78,7 +78,7 @@ module _ (s : List ℕ) (l : ForestLayout) where
   external_next : (n last : ℕ) → last ≤ 0 → Class s l n 0 → Sofar n last → Sofar (suc n) 0
   external_next n last h c so =
       let o = so.order in
-      let all : o.externals ≡ n = so.all-external (omega arith) in
+      let all : o.externals ≡ n = so.all_external (omega arith) in
       record {
         order =
             record {
@@ -96,7 +96,7 @@ module _ (s : List ℕ) (l : ForestLayout) where
   block_next : (n last : ℕ) → last ≤ 1 → Class s l n 1 → Sofar n last → Sofar (suc n) 1
   block_next n last h c so =
       let o = so.order in
-      let all : o.externals + o.blocks ≡ n = so.no-others (omega arith) in
+      let all : o.externals + o.blocks ≡ n = so.no_others (omega arith) in
       record {
         order =
             record {

@@ -75,7 +75,7 @@ module _ (s : List ℕ) (at : ℕ) (r : CountRead) (bytes : Bytes s) where
 
   from_whole : Request4 s at r → at + length_at s at ≤ length s → ReadsCount s at r
   unfolding count_length
-  from_whole q w = ⊎_elim (λ h. q.near-end h w ∙ sym (whole_upto_8 s at w (omega arith))) (λ h. from_eight q w h) (lt_or_ge (length s) (at + 8))
+  from_whole q w = ⊎_elim (λ h. q.near_end h w ∙ sym (whole_upto_8 s at w (omega arith))) (λ h. from_eight q w h) (lt_or_ge (length s) (at + 8))
 
   from_all : Request4 s at r → ReadsCount s at r
   unfolding count_length

@@ -1,0 +1,81 @@
+-- `rows::survey_words` meets its contract. The invariant: if nothing is marked so far, the pass goes on over i words from word `from` on, and
+-- over i words from word `from + n` on, each with as many externals more as were counted in its half.
+-- Assumes nothing.
+use mathlib.Core.Path.{◌≡◌, refl}
+use Prim.Native.Nat.{◌/◌, ◌%◌, ◌^◌, ◌<◌, ◌+◌}
+use native.Mathlib.Nat.{add_assoc, add-zero}
+use native.Mathlib.Numerals.{add-one}
+use native.Mathlib.Omega.{arith}
+use borrow.Author.Rules.{rules}
+use lib.ListN.{get_or}
+use Rattle.rows.specs.Rows.{word_read}
+use Rattle.rows.proofs.Quick.{onward_next}
+use Rattle.rows.proofs.Pairs.{or_clear, pair_parts, top_few, Counted, counted_on}
+use Rattle.rows.proofs.survey_words.Goals as goal
+
+pub loop-i-init : goal.loop-i-init
+loop-i-init c =
+    (omega arith, (omega arith, (omega arith, λ wides highs. ((λ before begun. rw (add-zero, add-zero) begun), (λ before begun. rw (add-zero, add-zero) begun)))))
+
+pub overflow_add-externals : goal.overflow_add-externals
+overflow_add-externals c =
+    let parts : let pair = c.side_by_side-pair.result in
+    let l = c.loop-i in
+    let a = c.args in
+    (pair < 2 ^ 64) × ((pair % 2 ^ 32 ≡ get_or a.words.now (a.from + l.i) 0 / 2 ^ 32) × (pair / 2 ^ 32 ≡ get_or a.words.now (a.from + a.n + l.i) 0 / 2 ^ 32)) = let l = c.loop-i in
+    let a = c.args in
+    pair_parts _ _ _ (c.type_inv.words (a.from + l.i)).fits (c.type_inv.words (a.from + a.n + l.i)).fits c.side_by_side-pair.ensures in
+    let counted : let pair = c.side_by_side-pair.result in
+    let l = c.loop-i in
+    Counted l.externals l.i (pair % 2 ^ 32 / 2 ^ 31) (pair / 2 ^ 32 / 2 ^ 31) c.top_bits-externals.result = let l = c.loop-i in
+    counted_on l.externals l.i _ _ _ _ l.invariant.1.0 l.invariant.1.1.0 c.loop-i-test.true c.requires.0
+    (top_few c.side_by_side-pair.result (parts).0)
+    c.top_bits-externals.ensures in
+    search (rules, counted.fits)
+
+pub loop-i-preserved : goal.loop-i-preserved
+loop-i-preserved c =
+    let parts : let pair = c.side_by_side-pair.result in
+    let l = c.loop-i in
+    let a = c.args in
+    (pair < 2 ^ 64) × ((pair % 2 ^ 32 ≡ get_or a.words.now (a.from + l.i) 0 / 2 ^ 32) × (pair / 2 ^ 32 ≡ get_or a.words.now (a.from + a.n + l.i) 0 / 2 ^ 32)) = let l = c.loop-i in
+    let a = c.args in
+    pair_parts _ _ _ (c.type_inv.words (a.from + l.i)).fits (c.type_inv.words (a.from + a.n + l.i)).fits c.side_by_side-pair.ensures in
+    let counted : let pair = c.side_by_side-pair.result in
+    let l = c.loop-i in
+    Counted l.externals l.i (pair % 2 ^ 32 / 2 ^ 31) (pair / 2 ^ 32 / 2 ^ 31) c.top_bits-externals.result = let l = c.loop-i in
+    counted_on l.externals l.i _ _ _ _ l.invariant.1.0 l.invariant.1.1.0 c.loop-i-test.true c.requires.0
+    (top_few c.side_by_side-pair.result (parts).0)
+    c.top_bits-externals.ensures in
+    let l = c.loop-i in
+    let a = c.args in
+    let read = word_read a.words.now in
+    let p = parts in
+    let k = counted in (
+      rw add-one c.loop-i-test.true,
+      (
+        k.lower_few,
+        (
+          k.higher_few,
+          λ wides highs.
+              let w = or_clear l.wides c.wide_marks-wides.result 29 wides in
+              let h = or_clear l.highs c.high_marks-highs.result 31 highs in
+              let narrow = c.wide_marks-wides.ensures w.1 in
+              let low = c.high_marks-highs.ensures h.1 in
+              let so_far = l.invariant.1.1.1 w.0 h.0 in (
+                rw (k.lower, ← add_assoc a.from l.i 1) (onward_next read a.from (a.from + l.i) _ _ _ refl p.1.0 low.0 narrow.0 so_far.0),
+                rw (k.higher, ← add_assoc (a.from + a.n) l.i 1)
+                    (onward_next read (a.from + a.n) (a.from + a.n + l.i) _ _ _ refl p.1.1 low.1 narrow.1 so_far.1),
+              ),
+        ),
+      ),
+    )
+
+-- both halves, one after the other
+pub returns-then-highs-eq0-2 : goal.returns-then-highs-eq0-2
+returns-then-highs-eq0-2 c =
+    let l = c.loop-i in
+    let a = c.args in
+    let end : l.i ≡ a.n = omega arith in
+    let both = rw end at (l.invariant.1.1.1 (c.if-wides-eq0.true, c.if-wides-eq0-2.true) (c.if-highs-eq0.true, c.if-highs-eq0-2.true)) in
+    λ before begun. rw (← add_assoc before (l.externals % 2 ^ 32) (l.externals / 2 ^ 32)) (both.1 (before + l.externals % 2 ^ 32) (both.0 before begun))
