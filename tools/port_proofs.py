@@ -120,10 +120,8 @@ class Function:
     def path(self, place, fields):
         """What stands for a path from a place's record: from c alone."""
         while fields and fields[0] == "before":
-            place, fields = self.parent(place), fields[1:]
-            if place is None:
-                self.said("before the start")
-                return None, None
+            # above the start there is nothing: the arguments are the same everywhere
+            place, fields = self.parent(place) or place, fields[1:]
         if not fields:
             return place, None
         head, rest = fields[0], fields[1:]
@@ -138,7 +136,7 @@ class Function:
                     return place, ".".join(["c", "type_inv", var] + rest[1:])
             if p["arm"]:
                 label, _, parts = p["arm"]
-                fit = [(new, path) for new, step, path in parts if flat(step) == flat(head) and rest[:len(path)] == path]
+                fit = [(new, path) for new, step, path in parts if flat(step) == flat(head) and path and rest[:len(path)] == path]
                 if fit:
                     new, path = max(fit, key=lambda it: len(it[1]))
                     return place, ".".join(["c", label, new] + rest[len(path):])
@@ -148,23 +146,28 @@ class Function:
         # a word of today's check, as port.py has it
         for p in self.places:
             if p["new"] and flat(p["new"]) == flat(head):
-                return place, ".".join(["c", p["new"]] + rest)
+                return place, ".".join(["c", p["new"]] + self.of_call(p, rest))
+        # a step that has its old name alone, where fewer steps lie between than there were
+        fit = {p["new"]: p for p in self.places if p["field"] and flat(p["field"]) == flat(head)}
+        if len(fit) == 1:
+            (p,) = fit.values()
+            return place, ".".join(["c", p["new"]] + self.of_call(p, rest))
         self.said(f"no step {head} at {place['old']}")
         return place, ".".join(["c"] + fields)
 
     def of_call(self, p, rest):
-        """A call's `.new.1.0` by its parameter's name, and its `.ensures.0` by its clause's."""
-        if p["call"] and rest[:1] == ["new"]:
+        """A call's `.new.1.0` and `.auto.1.0` by its parameter's name, and its `.ensures.0` by its clause's."""
+        if p["call"] and rest[:1] in (["new"], ["auto"]):
             k = 0
             while rest[1 + k:2 + k] == ["1"]:
                 k += 1
             names = self.data["params"].get(p["call"], [])
             if rest[1 + k:2 + k] == ["0"] and k < len(names):
-                return ["new", names[k]] + rest[2 + k:]
+                return [rest[0], names[k]] + rest[2 + k:]
         if p["clauses"] and rest[:1] in (["ensures"], ["requires"]) and len(rest) > 1 and rest[1].isdigit():
             names = p["clauses"]
             if isinstance(names, dict):
-                names = names.get(rest[0], [])
+                names = names.get("fields") or names.get(rest[0], [])
             if int(rest[1]) < len(names):
                 return [rest[0], names[int(rest[1])]] + rest[2:]
         return rest
@@ -178,7 +181,7 @@ class Function:
         d = self.decls.get(name)
         if not d:
             return None
-        m = re.match(r"\((" + NAMES + r") : (tie\.[^()]*?)\) →\s*(.*)$", d.type, re.S)
+        m = re.match(r"\((" + NAMES + r") : (tie\.[^()]*?)\)\s*→\s*(.*)$", d.type, re.S)
         if not m or len(d.clauses) != 1 or d.clauses[0][0] is None:
             return None
         place = self.place_of(m.group(2))
@@ -203,6 +206,19 @@ class Function:
             place, _ = self.path(env[found.group(2)], found.group(3).split(".")[1:])
             env[found.group(1)] = place
             text = text[:found.start()] + text[found.end():]
+        # a name for the arguments has them by the names of today
+        for m in re.finditer(r"(?<![\w'.-])let (" + NAMES + r") = " + NAMES + r"(?:\.before)*\.args in(?=\s)", text):
+            for old, new in self.args.items():
+                text = re.sub(r"(?<![\w'.-])" + re.escape(m.group(1) + "." + old) + r"(?![\w'-])", f"{m.group(1)}.{new}", text)
+        # and a name for a call with several clauses
+        for m in list(re.finditer(r"(?<![\w'.-])let (" + NAMES + r") = (" + NAMES + r")((?:\.before)*\." + NAMES + r") in(?=\s)\s*", text)):
+            if m.group(2) not in env:
+                continue
+            fields = m.group(3).split(".")[1:]
+            step = [p for p in self.places if p["field"] and flat(p["field"]) == flat(fields[-1]) and p["clauses"]]
+            if step:
+                text = text.replace(m.group(0), "", 1)
+                text = re.sub(r"(?<![\w'.-])" + re.escape(m.group(1)) + r"(?=\.)", m.group(2) + m.group(3), text)
         # helpers over a step
         def call(m):
             h = self.helper(m.group(1))
@@ -252,6 +268,10 @@ def by_clause(text, names, failed):
                 start = i
                 break
     if start is None or not re.search(r"(?:^|\bin)\s*$", text[:start]):
+        end = re.split(r"\bin\s", text)[-1].strip()
+        if not re.match(r"(?:rw|omega|search|grind|elim|simp|absurd|cc|record)\b", end):
+            fields = "; ".join(f"{n} = both.{i}" for i, n in enumerate(names))
+            return f"let both = {text.strip()} in record {{ {fields} }}"
         failed()
         return text
     parts, here, depth = [], "", 0
@@ -322,7 +342,9 @@ def convert(crate, key, data, folder):
                 said.append(f"{new} is {arg[:60]}")
                 continue
             params, body = m.group(1).split(), m.group(2)
-            unfolding = last.unfolding
+            # what the whole proof unfolds
+            if not SELF.match(body.strip()) or new.startswith("returns"):
+                unfolding = list(last.unfolding)
         else:
             d = fn.decls.get(arg)
             if not d:
@@ -343,7 +365,7 @@ def convert(crate, key, data, folder):
                 params, body = d.clauses[0]
                 notes, unfolding = d.notes, d.unfolding
             taken["used"].add(arg)
-        if SELF.match(body.strip()) and not (unfolding and unfolding is not last.unfolding):
+        if SELF.match(body.strip()) and not unfolding:
             continue
         used = {}
         if len(params) > 1 and re.search(r"(?<![\w'.-])" + re.escape(params[1]) + r"(?![\w'-])", body):
