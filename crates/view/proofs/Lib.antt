@@ -1,3 +1,0 @@
-pub mod Contracts
-pub mod Thin
-pub mod Through
