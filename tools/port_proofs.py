@@ -257,6 +257,23 @@ class Function:
         return PATH.sub(one, text)
 
 
+def whole_ensures(fn, text):
+    """What a call with several clauses ensures, given to a lemma as a whole: a pair of its clauses."""
+    end = re.split(r"\bin\s", text)[-1].strip()
+    fields = {p["new"]: p["clauses"]["fields"] for p in fn.places if p["call"] and isinstance(p["clauses"], dict) and len(p["clauses"].get("fields") or []) > 1}
+
+    def one(m):
+        names = fields.get(m.group(1))
+        if not names or end == m.group(0) or (end.startswith("rw ") and text.rstrip().endswith(m.group(0))):
+            return m.group(0)
+        parts = [f"{m.group(0)}.{n}" for n in names]
+        out = parts[-1]
+        for p in reversed(parts[:-1]):
+            out = f"({p}, {out})"
+        return out
+    return re.sub(r"(?<![\w'.-])c\.([\w'₀-₉+-]+)\.ensures(?![\w'.-])", one, text)
+
+
 def by_clause(text, names, failed):
     """The tuple at the end of a term, as a record by the names of the clauses."""
     depth, start = 0, None
@@ -284,6 +301,12 @@ def by_clause(text, names, failed):
             here += ch
     if here.strip():
         parts.append(here)
+    inner = parts[-1].strip() if parts else ""
+    if 1 < len(parts) < len(names) and inner.startswith("(") and inner.endswith(")"):
+        rest = by_clause(inner, names[len(parts) - 1:], lambda: None)
+        if rest.startswith("record { "):
+            first = "; ".join(f"{n} = {p.strip()}" for n, p in zip(names, parts[:-1]))
+            return text[:start] + "record { " + first + "; " + rest[len("record { "):]
     if len(parts) != len(names):
         failed()
         return text
@@ -307,7 +330,18 @@ def convert(crate, key, data, folder):
     loops = data["loops"]
     mark, rest = args[:2 * len(loops)], args[2 * len(loops):]
     if len(rest) != len(data["needs"]):
-        return [f"{len(rest)} answers for {len(data['needs'])} goals"], None, None
+        # more goals were asked once than are: each answer that is more than a tactic names its goal, and the others go
+        named = {}
+        for arg in rest:
+            d = fn.decls.get(arg)
+            m = d and re.match(r"tie\.Need-([\w'+-]+)", d.type)
+            if m:
+                named[flat(m.group(1))] = arg
+            elif not re.match(r"\(λ [^.]*\.\s*(?:search rules|omega arith)\)$", arg):
+                return [f"{len(rest)} answers for {len(data['needs'])} goals"], None, None
+        rest = [named.pop(flat(old), "(λ c. search rules)") for old, new in data["needs"]]
+        if named:
+            said.append(f"no goal for {sorted(named)}")
     path = key.split(".proofs.", 1)[1] if ".proofs." in key else key
     module = f"Rattle.{crate}.proofs.{path}"
     uses = [u for u in uses if not re.search(r"\.(Statement|Tie)\b", u)]
@@ -371,7 +405,7 @@ def convert(crate, key, data, folder):
         if len(params) > 1 and re.search(r"(?<![\w'.-])" + re.escape(params[1]) + r"(?![\w'-])", body):
             said.append(f"{new} uses {params[1]}")
         env = {params[0]: place} if params[0] != "_" else {}
-        b = fn.turn(body, env, used)
+        b = whole_ensures(fn, fn.turn(body, env, used))
         if old in data["asked"]:
             b = by_clause(b, data["asked"][old], lambda: said.append(f"{new} is no tuple of {data['asked'][old]}"))
         lets = ""
