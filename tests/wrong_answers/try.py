@@ -15,7 +15,10 @@ from pathlib import Path
 
 HERE = Path(__file__).resolve().parent
 ROOT = HERE.parents[1]
-SHAPE = re.compile(r"can be named from here|has no field|unknown name|not in scope|unexpected|expected a ")
+SHAPE = re.compile(
+    r"can be named|has no field|is not a field|has no `|unknown name|is no name|not in scope|unexpected|expected a |expected the end"
+    r"|operand is missing|cannot continue|can import|no clause covers"
+)
 
 
 def records(text):
@@ -42,12 +45,18 @@ def records(text):
 
 
 def prove(root, crate):
-    ended = subprocess.run(["rt", "dev", crate], cwd=root, stdout=subprocess.PIPE, stderr=subprocess.STDOUT, text=True)
+    folder = root / "crates" / crate
+    ended = subprocess.run(["rt", "check"], cwd=folder, stdout=subprocess.PIPE, stderr=subprocess.STDOUT, text=True)
     return ended.stdout.replace(f"{root}/", "").splitlines()
 
 
+def logic(lines):
+    """What is said of the crate itself: the last of the lines that say it of one, since those that it stands on come first."""
+    return ([line.split()[0] for line in lines if line.startswith("logic=")] or [""])[-1]
+
+
 def proved(lines):
-    return any(line.startswith("logic=proved") for line in lines)
+    return logic(lines) == "logic=proved"
 
 
 def complaint(lines):
@@ -64,7 +73,7 @@ def verdict(function, lines):
     first = complaint(lines)
     if proved(lines):
         return "NOT REFUSED", first
-    if "logic=not-proved" not in lines or not first:
+    if logic(lines) != "logic=not-proved" or not first:
         return "NO VERDICT: " + (lines[-1] if lines else "nothing was said"), first
     if not any(re.match(rf"fn {re.escape(function)}: (not proved|no proof)", line) for line in lines):
         return "REFUSED ELSEWHERE", first
@@ -90,12 +99,9 @@ def attempt(root, one):
 
 
 def copy(to):
-    shutil.copytree(ROOT / "crates", to / "crates")
+    # what was proved before need not be proved again: rt begins with what a check kept in another copy
+    shutil.copytree(ROOT / "crates", to / "crates", ignore=shutil.ignore_patterns("out"))
     shutil.copy(ROOT / "crates.txt", to)
-    # what was proved before need not be proved again
-    for part in ("rlib", "stamp"):
-        if (ROOT / "target" / part).is_dir():
-            shutil.copytree(ROOT / "target" / part, to / "target" / part)
 
 
 def main(wanted, full=None):
