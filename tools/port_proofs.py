@@ -127,6 +127,8 @@ class Function:
         head, rest = fields[0], fields[1:]
         if head == "args" and rest and rest[0] in self.args:
             rest = [self.args[rest[0]]] + rest[1:]
+        if head == "requires":
+            rest = clause_path((self.data.get("pre") or {}).get("fields") or [], rest)
         if head in ("args", "requires", "ranges", "lifetimes", "well_formed", "well-formed"):
             return place, ".".join(["c", flat(head)] + rest)
         p = place
@@ -168,8 +170,7 @@ class Function:
             names = p["clauses"]
             if isinstance(names, dict):
                 names = names.get("fields") or names.get(rest[0], [])
-            if int(rest[1]) < len(names):
-                return [rest[0], names[int(rest[1])]] + rest[2:]
+            return [rest[0]] + clause_path(names, rest[1:])
         return rest
 
     def place_of(self, type_text):
@@ -181,13 +182,19 @@ class Function:
         d = self.decls.get(name)
         if not d:
             return None
-        m = re.match(r"\((" + NAMES + r") : (tie\.[^()]*?)\)\s*→\s*(.*)$", d.type, re.S)
-        if not m or len(d.clauses) != 1 or d.clauses[0][0] is None:
+        if len(d.clauses) != 1 or not d.clauses[0][0]:
             return None
-        place = self.place_of(m.group(2))
+        m = re.match(r"\((" + NAMES + r") : (tie\.[^()]*?)\)\s*(?:→\s*)?(?=\S)(.*)$", d.type, re.S)
+        var, step, said = (m.group(1), m.group(2), m.group(3)) if m else (None, None, None)
+        if not m:
+            m = re.match(r"(tie\.[\w'+-]+(?: " + NAMES + r")*)\s*→\s*(.*)$", d.type, re.S)
+            if not m:
+                return None
+            var, step, said = d.clauses[0][0][0], m.group(1), m.group(2)
+        place = self.place_of(step)
         if not place:
             return None
-        return place, m.group(1), m.group(3), d
+        return place, var, said, d
 
     def turn(self, text, env, used):
         """The text with its paths named from c; the helpers that it uses go into used."""
@@ -241,7 +248,8 @@ class Function:
                 for n in deeper:
                     unfolding |= used[n][1] if used.get(n) else set()
                 del used[m.group(1)]
-                used[m.group(1)] = (f"let {m.group(1)} : {t} = {lam}{b.strip()} in", unfolding)
+                said = "" if "abbrev" in d.how else f" : {t}"
+                used[m.group(1)] = (f"let {m.group(1)}{said} = {lam}{b.strip()} in", unfolding)
             return m.group(1)
         text = re.sub(r"(?<![\w'.-])(" + NAMES + r") (" + NAMES + r")((?:\.before)*)(?![\w'.-])", call, text)
 
@@ -274,6 +282,34 @@ def whole_ensures(fn, text):
     return re.sub(r"(?<![\w'.-])c\.([\w'₀-₉+-]+)\.ensures(?![\w'.-])", one, text)
 
 
+def split_tuple(text):
+    parts, here, depth = [], "", 0
+    for ch in text[1:-1]:
+        depth += {"(": 1, "{": 1, "[": 1, ")": -1, "}": -1, "]": -1}.get(ch, 0)
+        if ch == "," and not depth:
+            parts.append(here)
+            here = ""
+        else:
+            here += ch
+    if here.strip():
+        parts.append(here)
+    return parts
+
+
+def clause_path(names, rest):
+    """Clauses were pairs, each with what follows it: a path into them by the clauses' names."""
+    if len(names) < 2:
+        return rest
+    k = 0
+    while k < len(names) - 1 and rest[k:k + 1] == ["1"]:
+        k += 1
+    if k == len(names) - 1:
+        return [names[k]] + rest[k:]
+    if rest[k:k + 1] == ["0"]:
+        return [names[k]] + rest[k + 1:]
+    return rest
+
+
 def by_clause(text, names, failed):
     """The tuple at the end of a term, as a record by the names of the clauses."""
     depth, start = 0, None
@@ -291,22 +327,12 @@ def by_clause(text, names, failed):
             return f"let both = {text.strip()} in record {{ {fields} }}"
         failed()
         return text
-    parts, here, depth = [], "", 0
-    for ch in text[start + 1:end - 1]:
-        depth += {"(": 1, "{": 1, "[": 1, ")": -1, "}": -1, "]": -1}.get(ch, 0)
-        if ch == "," and not depth:
-            parts.append(here)
-            here = ""
-        else:
-            here += ch
-    if here.strip():
-        parts.append(here)
-    inner = parts[-1].strip() if parts else ""
-    if 1 < len(parts) < len(names) and inner.startswith("(") and inner.endswith(")"):
-        rest = by_clause(inner, names[len(parts) - 1:], lambda: None)
-        if rest.startswith("record { "):
-            first = "; ".join(f"{n} = {p.strip()}" for n, p in zip(names, parts[:-1]))
-            return text[:start] + "record { " + first + "; " + rest[len("record { "):]
+    parts = split_tuple(text[start:end])
+    while len(parts) < len(names) and re.fullmatch(r"\(.*\)", parts[-1].strip(), re.S):
+        last = split_tuple(parts[-1].strip())
+        if len(last) < 2:
+            break
+        parts[-1:] = last
     if len(parts) != len(names):
         failed()
         return text
