@@ -323,7 +323,7 @@ def by_clause(text, names, failed):
     if start is None or not re.search(r"(?:^|\bin)\s*$", text[:start]):
         end = re.split(r"\bin\s", text)[-1].strip()
         if not re.match(r"(?:rw|omega|search|grind|elim|simp|absurd|cc|record)\b", end):
-            fields = "; ".join(f"{n} = both.{i}" for i, n in enumerate(names))
+            fields = "; ".join(f"{n} = both{'.1' * i}{'.0' if i < len(names) - 1 else ''}" for i, n in enumerate(names))
             return f"let both = {text.strip()} in record {{ {fields} }}"
         failed()
         return text
