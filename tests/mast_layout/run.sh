@@ -1,17 +1,13 @@
 #!/bin/sh
 # Runs the small program on whole files and compares what it writes with the paper's pages, byte for byte: all of standard output, and all of
-# standard error. `rt` must be on the path. Where the machine is no x86-64, the kit's emulator runs the program, or RUN names one.
+# standard error. `rt` must be on the path. RUN may name what runs the program.
 # It ends 'N of M agree', with status 0 where all do.
 set -eu
 root=$(cd "$(dirname "$0")/../.." && pwd)
 cd "$root"
-rt check mast_layout >/dev/null || { echo 'mast_layout is not proved'; exit 1; }
-program=$root/target/bin/mast_layout
-if [ -z "${RUN:-}" ] && [ "$(uname -m)" != x86_64 ]; then
-    kit=$(rt doc)
-    tools=${kit%/docs/*}/on/$(uname -m)/toolchain
-    RUN="$tools/bin/qemu-x86_64 $tools/lib/ld-linux-x86-64.so.2 --library-path $tools/lib"
-fi
+program=$root/crates/mast_layout/out/mast_layout
+# proved, built, and run once on nothing
+(cd crates/mast_layout && rt run </dev/null) >/dev/null 2>&1 || { echo 'mast_layout is not proved'; exit 1; }
 work=$(mktemp -d)
 trap 'rm -rf "$work"' EXIT
 agreed=0

@@ -5,11 +5,11 @@
 set -eu
 root=$(cd "$(dirname "$0")/../.." && pwd)
 cd "$root"
-rt check mast_layout >/dev/null || { echo 'mast_layout is not proved'; exit 1; }
+(cd crates/mast_layout && rt run </dev/null) >/dev/null 2>&1 || { echo 'mast_layout is not proved'; exit 1; }
 work=$(mktemp -d)
 trap 'rm -rf "$work"' EXIT
-WORK=$work REAL=$(command -v rt)
-export WORK REAL
+WORK=$work
+export WORK
 agreed=0
 tried=0
 newline='
@@ -142,7 +142,7 @@ counts 'an output that cannot be written' [ "$status" = 2 ]
 
 # a PATH with the script's few tools and no rt; help needs none, and nothing built
 mkdir "$work/tools"
-for tool in cat dirname readlink uname; do ln -s "$(command -v "$tool")" "$work/tools/$tool"; done
+for tool in cat dirname readlink; do ln -s "$(command -v "$tool")" "$work/tools/$tool"; done
 path=$work/tools
 says 'no rt' 2 "mast-layout: rt, of the Rattle kit, is not on the PATH$newline" '' samples/p10.mast <"$other"
 runs env PATH="$path" ./mast-layout --help <"$other"
@@ -156,37 +156,43 @@ done
 says '-h' 0 '' "$help$newline" -h <"$other"
 says 'help with more words' 0 '' "$help$newline" --help a b c <"$other"
 
-# another rt in its place: what it says as it proves. It reads its input, which must not be the script's, and keeps what has been shown so far once
-# it has written more than a pipe holds: by then the line before has been read
+# another rt in its place: what it says as it proves, all on standard error. It reads its input, which must not be the script's, and keeps what has
+# been shown so far once it has written more than what lies between holds: by then the line before has been read
 mkdir "$work/rt"
 cat >"$work/rt/rt" <<'EOF'
 #!/bin/sh
-[ "$1" = check ] || { [ ! -e "$WORK/lost" ] && exec "$REAL" "$@"; echo /lost/docs/page; exit; }
+[ "$1" = run ] || exit 1
 cat >"$WORK/read"
-echo 'rt: wire proved (unchanged since it was last proved)'
-echo 'logic=proved functions=1'
-echo 'rt: page proved (3 s)'
-head -c $((17 * $(getconf PAGESIZE))) /dev/zero | tr '\0' .
+echo 'refused 1 at 0'
+exec >&2
+echo 'rt: wire: begins with what a check kept'
+echo 'fn page::program::program: proved'
+echo 'crate page: modules loaded=0 checked=92'
+echo 'logic=proved functions=11'
+head -c $((68 * $(getconf PAGESIZE))) /dev/zero | tr '\0' .
 cp "$WORK/err" "$WORK/so_far"
 echo
-[ ! -e "$WORK/fails" ] || { echo 'rt: mast_layout NOT PROVED (exit 1, 2 s)'; echo 'rt: FAILED: mast_layout'; exit 1; }
-echo 'rt: mast_layout proved (2 s)'
-echo 'rt: ok, 3 crates proved'
+echo 'crate mast_layout: modules loaded=170 checked=12'
+[ ! -e "$WORK/fails" ] || { echo 'logic=not-proved'; exit 1; }
+echo 'logic=proved functions=8'
+echo 'rt: running out/mast_layout; to give it other input, run that file yourself'
 EOF
 chmod +x "$work/rt/rt"
 path=$work/rt:$PATH
-first="rt: page proved (3 s)$newline"
-says 'what is proved is shown' 0 "${first}rt: mast_layout proved (2 s)$newline" "$page" <samples/p10.mast
+first="rt: page proved$newline"
+says 'what is proved is shown' 0 "${first}rt: mast_layout proved$newline" "$page" <samples/p10.mast
 counts 'what is proved is shown as it comes' [ "$(cat "$work/so_far")$newline" = "$first" ]
 counts 'rt has no input' [ ! -s "$work/read" ]
 : >"$work/fails"
-failed="${first}rt: mast_layout NOT PROVED (exit 1, 2 s)${newline}rt: FAILED: mast_layout$newline"
-failed="${failed}mast-layout: its program is not proved and built; target/log has what was said$newline"
+failed="${first}rt: mast_layout NOT PROVED$newline"
+failed="${failed}mast-layout: its program is not proved and built; crates/mast_layout/out/log has what was said$newline"
 says 'a proof that fails' 2 "$failed" '' samples/p10.mast <"$other"
 rm "$work/fails"
-: >"$work/lost"
+program=crates/mast_layout/out/mast_layout
+mv "$program" "$work/program"
 runs env PATH="$path" ./mast-layout samples/p10.mast <"$other"
-counts 'a kit without its loader' [ "$status" = 2 ]
+mv "$work/program" "$program"
+counts 'a program that cannot be run' [ "$status" = 2 ]
 
 echo "$agreed of $tried agree"
 [ "$agreed" -eq "$tried" ]

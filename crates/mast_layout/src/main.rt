@@ -5,13 +5,17 @@
 // The five words replace the stand-in format facts: magic in 8 hexadecimal digits, version in 6, the two
 // masks in 2 each, the node maximum in decimal. Wrong words give one line on standard error, and nothing
 // is read. What is said, and where, is the proved function `program` of the crate page, whose types fix the
-// rooms lent here: this file moves bytes.
+// rooms lent here: this file moves bytes. The status is 0, and 1 where what is said could not be written.
 #![tactic(auto)]
 
-ghost use Rattle.std.specs.Prelude.{◌≡◌, length};
+ghost use Rattle.std.specs.Prelude.{◌≡◌, ◌<◌, ◌≤◌, true, false, length, take, Ok, IfOk};
+ghost use Rattle.std.specs.Io.KnownBytes.{Consumes, IsAtEnd};
 
-use libc::{STDERR_FILENO, STDIN_FILENO, STDOUT_FILENO};
 use page::program::{Said, program, words_wrong};
+use std::env::FillError;
+use std::io;
+use std::io::{Read, Write};
+use std::rt::Env;
 
 // The most bytes of a word.
 const WORD: usize = 64;
@@ -36,17 +40,19 @@ fn text_room() -> [u8; 512]
 
 // Puts the words of the command into the buffer, each with a zero after it, and answers how many bytes these
 // are. It stops where there is no room for one more word of 64 bytes. A longer one is put as an empty one,
-// which is wrong: of it `os::arg` answers 0.
-fn read_words(buf: &mut [u8]) -> usize {
-    let given = os::arg_count();
+// which is wrong.
+fn read_words(env: &impl Env, buf: &mut [u8]) -> usize
+    ensures { result ≤ length buf.new }
+{
     let mut at: usize = 0;
     let mut i: usize = 1;
-    while i < given {
-        if buf.len() - at <= WORD {
-            return at;
-        }
+    while WORD < buf.len() - at {
         let end = at + WORD;
-        let n = os::arg(i, &mut buf[at..end]);
+        let n = match env.arg(i, &mut buf[at..end]) {
+            Ok(n) => n,
+            Err(FillError::TooLong) => 0,
+            Err(FillError::NotPresent) => return at,
+        };
         let zero = at + n;
         buf[zero] = 0;
         at = zero + 1;
@@ -55,53 +61,55 @@ fn read_words(buf: &mut [u8]) -> usize {
     at
 }
 
-// How many bytes were read, or that a read failed.
-#[derive(Clone, Copy)]
-struct Input {
-    n: usize,
-    failed: bool,
-}
-
-// Reads standard input to its end, or until the room is full; or nothing, where it is not wanted.
-fn read_input(buf: &mut [u8], unwanted: bool) -> Input {
+// Reads the input to its end, or until the room is full, and answers how many bytes these are; or nothing,
+// where it is not wanted. An error is the input's own, and the room may then hold what came before it.
+fn read_input<R: Read>(input: &mut R, buf: &mut [u8], unwanted: bool) -> io::Result<usize>
+    ensures bound { IfOk result (λ n. n ≤ length buf.new) }
+    ensures bytes { IfOk result (λ n. Consumes (R.remaining input.old) (R.remaining input.new) (take n buf.new)) }
+    ensures end { IfOk result (λ n. unwanted ≡ false → n < length buf.new → IsAtEnd (R.remaining input.new)) }
+    ensures unread { unwanted ≡ true → (result ≡ Ok 0) × (input.new ≡ input.old) × (buf.new ≡ buf.old) }
+{
     if unwanted {
-        return Input {
-            n: 0,
-            failed: false,
-        };
+        return Ok(0);
     }
     let mut n: usize = 0;
     while n < buf.len() {
-        let got = libc::read(STDIN_FILENO, &mut buf[n..]);
-        if got < 0 {
-            return Input { n: 0, failed: true };
-        }
-        let more = io::count(got, &buf[n..]);
+        let more = input.read(&mut buf[n..])?;
         if more == 0 {
-            return Input { n, failed: false };
+            return Ok(n);
         }
         n += more;
     }
-    Input { n, failed: false }
+    Ok(n)
 }
 
-fn main() {
-    let mut words = word_room();
-    let len = read_words(&mut words);
-    let mut file = file_room();
-    let input = read_input(&mut file, words_wrong(&words, len));
-    if input.failed {
-        os::fail(b"mast_layout: standard input");
-        return;
+// The system's words for an error, which is shown with its number after them.
+fn words_of(shown: &str) -> &str {
+    match shown.split_once(" (os error ") {
+        Some((words, _)) => words,
+        None => shown,
     }
-    let size = input.n;
+}
+
+// Says on standard error why the input could not be read.
+fn say_unread(rt: &(impl Eprint + AllocGlobal), error: io::Error) -> io::Result<()> {
+    let shown = format!(in rt.alloc(); "{error}")?;
+    let words = words_of(shown.as_str());
+    eprintln!(rt; "mast_layout: standard input: {words}")
+}
+
+fn main(rt: HostRuntime) -> io::Result<()> {
+    let mut words = word_room();
+    let len = read_words(&rt, &mut words);
+    let mut file = file_room();
+    let unwanted = words_wrong(&words, len);
+    let size = match read_input(&mut rt.stdin(), &mut file, unwanted) {
+        Ok(size) => size,
+        Err(error) => return say_unread(&rt, error),
+    };
     let mut out = text_room();
     match program(&words, len, &file, size, &mut out) {
-        Said::Output(k) => {
-            io::write_all(STDOUT_FILENO, &out[..k]);
-        }
-        Said::Error(k) => {
-            io::write_all(STDERR_FILENO, &out[..k]);
-        }
+        Said::Output(k) => rt.stdout().write_all(&out[..k]),
+        Said::Error(k) => rt.stderr().write_all(&out[..k]),
     }
 }

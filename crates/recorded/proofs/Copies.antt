@@ -3,9 +3,8 @@
 use Rattle.std.proofs.Common.{◌≡◌, ℕ, ◌+◌, ◌-◌, ◌<◌, ◌≤◌, min, List, [], ◌∷◌, ◌++◌, length, get_or, take, drop, set, sym, refl, ap, ◌∙◌, ⊎_elim, add-one, arith, length-drop, length-set, take-append-drop, drop_of_length-le, length-take-le, take_all, drop-cons, take-suc, take-suc-set}
 use lib.Seq.{take-length}
 use Rattle.wire.proofs.Counts.{lt_or_ge}
-use Rattle.io.specs.Counts.{IsPrefixLen}
 use Rattle.recorded.specs.Calls.{between}
-use Rattle.recorded.specs.Inner.{Starts}
+use Rattle.recorded.specs.Inner.{IsPrefixLen, Starts}
 
 -- the first i of two lists are the same
 pub record Alike (a b : List ℕ) (i : ℕ) : Type 0 where

@@ -3,6 +3,10 @@ use Rattle.std.specs.Prelude.{◌≡◌, ℕ, ◌<◌, ◌≤◌, List, ◌∷�
 use Rattle.text.specs.Marks.{before, past}
 use Rattle.recorded.specs.Text.{numbers_in}
 
+-- `&xs[..n]` is in bounds and has n numbers; the second part follows from the first
+abbrev pub IsPrefixLen : ℕ → List ℕ → Type 0
+IsPrefixLen n xs = (n ≤ length xs) × (n ≡ length (take n xs))
+
 -- a list is cut at its first mark: what is before it ends at `end`, and what is past it begins at `rest`
 pub record CutAt (l : List ℕ) (mark end rest : ℕ) : Type 0 where
   pub inside : end ≤ length l

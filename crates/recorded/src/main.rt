@@ -5,10 +5,15 @@
 // section agree is printed with its title, up to the first that does not; specs/Agreed.antt says when one does.
 //
 // Limits: 3,000,000 bytes of text, 98,304 of a file, 4,096 numbers given and lent, 8,192 recorded. A case
-// beyond them does not agree.
+// beyond them does not agree. The program ends with an error where it cannot read or write.
 #![tactic(auto)]
 
-use libc::{STDIN_FILENO, STDOUT_FILENO};
+ghost use Rattle.std.specs.Prelude.{◌<◌, length, take, IfOk};
+ghost use Rattle.std.specs.Io.{ReadsAtMost};
+ghost use Rattle.std.specs.Io.KnownBytes.{Consumes, IsAtEnd};
+
+use std::io;
+use std::io::Read;
 
 mod arrays;
 mod case;
@@ -26,35 +31,53 @@ use reading::cut;
 use tally::tally;
 
 // Where a case does not agree, its line is named.
-fn print_section(section: &[u8]) -> u64 {
+fn print_section(rt: &impl Print, section: &[u8]) -> io::Result<u64> {
     let title = cut(section, b'\n');
     let end = title.end;
     let rest = title.rest;
     let counted = tally(&section[rest..]);
-    io::print_decimal(STDOUT_FILENO, counted.agreed);
-    io::write_all(STDOUT_FILENO, b" agree: ");
-    io::write_all(STDOUT_FILENO, &section[..end]);
+    rt.print(counted.agreed)?;
+    rt.write_all(b" agree: ")?;
+    rt.write_all(&section[..end])?;
     if 0 < counted.lost {
-        io::write_all(STDOUT_FILENO, b", but not line ");
-        io::print_decimal(STDOUT_FILENO, counted.lost);
+        rt.write_all(b", but not line ")?;
+        rt.print(counted.lost)?;
     }
-    io::write_all(STDOUT_FILENO, b"\n");
-    counted.agreed
+    rt.write_all(b"\n")?;
+    Ok(counted.agreed)
 }
 
 // What comes before the first `@` is no section.
-fn print_all(text: &[u8]) {
+fn print_all(rt: &impl Print, text: &[u8]) -> io::Result<()> {
     let mut agreed: u64 = 0;
     let mut at = cut(text, b'@').rest;
     while at < text.len() {
         let section = cut(&text[at..], b'@');
         let end = at + section.end;
-        let more = print_section(&text[at..end]);
-        agreed = std::num::wrapping_add_u64(agreed, more);
+        let more = print_section(rt, &text[at..end])?;
+        agreed = agreed.wrapping_add(more);
         at += section.rest;
     }
-    io::print_decimal(STDOUT_FILENO, agreed);
-    io::write_all(STDOUT_FILENO, b" agree in all\n");
+    rt.print(agreed)?;
+    rt.write_all(b" agree in all\n")
+}
+
+// Reads until the buffer is full or the input ends, and answers how many bytes it put at the start of the
+// buffer. An error is the input's own, and the buffer may then hold what came before it.
+fn read_full<R: Read>(input: &mut R, buf: &mut [u8]) -> io::Result<usize>
+    ensures bound { ReadsAtMost result buf.new }
+    ensures bytes { IfOk result (λ n. Consumes (R.remaining input.old) (R.remaining input.new) (take n buf.new)) }
+    ensures end { IfOk result (λ n. n < length buf.new → IsAtEnd (R.remaining input.new)) }
+{
+    let mut done: usize = 0;
+    while done < buf.len() {
+        let n = input.read(&mut buf[done..])?;
+        if n == 0 {
+            return Ok(done);
+        }
+        done += n;
+    }
+    Ok(done)
 }
 
 // A function of its own, so that a proof knows the array by its length alone.
@@ -62,12 +85,11 @@ fn room() -> [u8; 3000001] {
     [0; 3000001]
 }
 
-fn main() {
+fn main(rt: HostRuntime) -> io::Result<()> {
     let mut text = room();
-    let n = io::read_full(STDIN_FILENO, &mut text);
+    let n = read_full(&mut rt.stdin(), &mut text)?;
     if n == 3000001 {
-        io::write_all(STDOUT_FILENO, b"more than 3000000 bytes: nothing is held\n");
-        return;
+        return rt.write_all(b"more than 3000000 bytes: nothing is held\n");
     }
-    print_all(&text[..n]);
+    print_all(&rt, &text[..n])
 }

@@ -1,8 +1,7 @@
 // The text: cut at a mark, and its numbers.
 ghost use Rattle.std.specs.Prelude.{◌≡◌, true, take};
-ghost use Rattle.io.specs.Counts.{IsPrefixLen};
 ghost use Rattle.recorded.specs.Text.{numbers_in};
-ghost use Rattle.recorded.specs.Inner.{CutAt, NumberAt};
+ghost use Rattle.recorded.specs.Inner.{CutAt, IsPrefixLen, NumberAt};
 
 use text::mark::mark_from;
 

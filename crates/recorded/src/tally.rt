@@ -1,8 +1,8 @@
 // The cases of a section, held one after the other.
 ghost use Rattle.std.specs.Prelude.{◌≡◌, ◌≤◌, true, [], take, drop};
-ghost use Rattle.io.specs.Counts.{IsPrefixLen};
 ghost use Rattle.recorded.specs.Text.{numbers_in, lines_in};
 ghost use Rattle.recorded.specs.Agreed.{is_file, agreed_in};
+ghost use Rattle.recorded.specs.Inner.{IsPrefixLen};
 
 use crate::case::case_agrees;
 use crate::lists::to_bytes;
