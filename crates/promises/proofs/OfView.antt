@@ -48,10 +48,10 @@ module _ {M : Type 1} (𝓤 : Ura M) where
       (via 𝓤 (sep 𝓤 (fact 𝓤 (φ × φ')) (fact 𝓤 (ψ × ψ'))) (mono_r 𝓤 (fact 𝓤 (φ × φ')) (both ψ ψ' (ψ × ψ') (λ y y'. (y, y')))) (both (φ × φ') (ψ × ψ') χ h))
 
 pub record View : Type 2 where
-  pub view_of_answers : AnswersIn v_view_of.ended (λ M 𝓤. v_view_of.clauses 𝓤)
-  pub root_answers : AnswersIn v_root.ended (λ M 𝓤. v_root.clauses 𝓤)
-  pub entry_answers : AnswersIn v_entry.ended (λ M 𝓤. v_entry.clauses 𝓤)
-  pub digest_answers : AnswersIn v_digest.ended (λ M 𝓤. v_digest.clauses 𝓤)
+  pub view_of_answers : AnswersIn v_view_of.ended (λ M 𝓤. v_view_of.clauses {M = M} {𝓤 = 𝓤})
+  pub root_answers : AnswersIn v_root.ended (λ M 𝓤. v_root.clauses {M = M} {𝓤 = 𝓤})
+  pub entry_answers : AnswersIn v_entry.ended (λ M 𝓤. v_entry.clauses {M = M} {𝓤 = 𝓤})
+  pub digest_answers : AnswersIn v_digest.ended (λ M 𝓤. v_digest.clauses {M = M} {𝓤 = 𝓤})
   pub root_in_answers : Answers root_in.Pre root_in.Post
   pub entry_in_answers : Answers entry_in.Pre entry_in.Post
   pub digest_in_answers : Answers digest_in.Pre digest_in.Post
