@@ -189,12 +189,12 @@ echo "its script: $(tail -n 1 "$work/script.log")"
 
 # the small program as one word, started as its script does
 kit=$(rt doc)
-tools=${kit%/docs/*}/on/$(uname -m)/toolchain
-emulator=$tools/bin/qemu-x86_64
-[ -x "$emulator" ] || emulator=
+tools=${kit%/*}/toolchain/lib
+emulator=
+[ "$(uname -m)" = x86_64 ] || emulator=qemu-x86_64
 cat >"$work/small" <<SMALL
 #!/bin/sh
-exec $emulator "$tools/lib/ld-linux-x86-64.so.2" --library-path "$tools/lib" "$root/target/bin/mast_layout" "\$@"
+exec $emulator "$tools/ld-linux-x86-64.so.2" --library-path "$tools" "$root/crates/mast_layout/out/mast_layout" "\$@"
 SMALL
 chmod +x "$work/small"
 step mast_run python3 tests/mast/run.py "$mast" "$work/small"

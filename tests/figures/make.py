@@ -5,7 +5,8 @@ Everything from the line `## Measured` on stands in that file alone and is kept 
 nothing is written: the last line says whether the file holds what the tree has, with status 0 where it does.
 
 A line counts unless it is blank or a comment (`//`, `--`).
-  code         lines of src/ that are neither `ghost` nor part of a clause `requires { .. }` or `ensures { .. }`
+  code         lines of src/ that are neither `ghost` nor an attribute `tactic`, nor part of a clause `requires { .. }` or `ensures { .. }`, with its
+               name where it has one
   definitions  lines of specs/
   proofs       lines of proofs/
   functions    each `fn NAME`; public are those that begin `pub fn` or `pub extern "C" fn`, and not `pub(crate) fn`
@@ -30,12 +31,12 @@ def counted(text, comment):
 
 
 def code_lines(text):
-    """The code of a file: no comments, no ghost lines, no clauses, however many lines they have."""
+    """The code of a file: no comments, no ghost lines, no clauses, however many lines they have, and nothing that only guides the check."""
     kept, depth = [], 0
     for line in counted(text, "//"):
-        if depth or re.match(r"\s*(requires|ensures)\b", line):
+        if depth or re.match(r"\s*(requires|ensures|ghost)\b", line):
             depth += line.count("{") - line.count("}")
-        elif not re.match(r"\s*ghost\b", line):
+        elif not re.match(r"\s*#!?\[tactic\b", line):
             kept.append(line)
     return kept
 
@@ -195,7 +196,7 @@ What is counted from the tree, by `tests/figures/make.py`; `tests/figures/make.p
 
 ## Sizes
 
-Lines without blank ones and comments; code without contracts and `ghost` lines. Edits are `crates/*/must-fail/*.edit`, which the gate tries; the list is `tests/wrong_answers/list.txt`, by the crate of the function, which is tried on demand.
+Lines without blank ones and comments; code without contracts, `ghost` lines and `tactic` attributes. Edits are `crates/*/must-fail/*.edit`, which the gate tries; the list is `tests/wrong_answers/list.txt`, by the crate of the function, which is tried on demand.
 
 {sizes(tried, listed)}
 ## What edits and wrong answers change

@@ -4,7 +4,7 @@
     check.py         says what is unused, by file and line
     check.py --fix   takes unused names out of the imports
 
-A name counts as used if it stands anywhere else in its file outside comments; an operator `_+_` where `+` stands. A law (a `pub` name declared in
+A name counts as used if it stands anywhere else in its file outside comments; an operator `◌+◌` where `+` stands. A law (a `pub` name declared in
 proofs/*.antt; those of crate promises are the conclusions) counts as cited if it stands anywhere but in its own declaration, in a file under
 crates/ or in a paper under docs/. Names are compared as words, so a law that shares its name with something else counts as cited.
 """
@@ -14,7 +14,7 @@ from collections import Counter
 from pathlib import Path
 
 ROOT = Path(__file__).resolve().parents[2]
-USE = re.compile(r'^[ \t]*(?:ghost )?use\s+([^;\n{]+?)(?:\.\{([^}]*)\}|\s+as\s+(\S+?))?;?[ \t]*$', re.M)
+USE = re.compile(r'^[ \t]*(?:ghost )?use\s+([^;\n{]+?)(?:(?:\.|::)\{([^}]*)\}|\s+as\s+(\S+?))?;?[ \t]*$', re.M)
 WORD = re.compile(r'\[\][^\s(){},;.«»"\[\]`⌜⌝]*|[^\s(){},;.«»"\[\]`⌜⌝]+')
 DECLARED = re.compile(r'^( *)(?:(?:abbrev|unfoldable)\s+)?pub\s+([^\s:]+)\s*:', re.M)
 
@@ -39,8 +39,7 @@ def words(code):
 
 
 def is_used(name, found):
-    parts = [p for p in name.split('_') if p]
-    return name in found or name[:1] == name[-1:] == '_' and all(p in found for p in parts)
+    return name in found or '◌' in name and all(p in found for p in name.split('◌') if p)
 
 
 def unused(code):
@@ -83,7 +82,7 @@ def laws(code):
 
 def main():
     fix = '--fix' in sys.argv[1:]
-    files = sorted(p for p in (ROOT / 'crates').rglob('*') if p.suffix in ('.antt', '.rt') and 'target' not in p.parts)
+    files = sorted(p for p in (ROOT / 'crates').rglob('*') if p.suffix in ('.antt', '.rt') and 'out' not in p.relative_to(ROOT).parts)
     wrong = 0
     named = Counter()
     for path in files:

@@ -1,7 +1,7 @@
 #!/usr/bin/env python3
 """Every public function has no `requires`, and its lines on the page of its crate (crates/promises/proofs/OfCRATE.antt): that it asks nothing and
-allows one answer (NAME-answers; or, where no plain result is promised, NAME-asks with NAME-one or NAME-leaves), and for all memory that it is lent to
-write to that what it leaves is one (NAME-leaves..). NAME-crosses says it of an exported function's number, of its answer where it has one, and
+allows one answer (NAME_answers; or, where no plain result is promised, NAME_asks with NAME_one or NAME_leaves), and for all memory that it is lent to
+write to that what it leaves is one (NAME_leaves..). NAME_crosses says it of an exported function's number, of its answer where it has one, and
 of its place. Main names every page.
 Fails with what is missing.
 """
@@ -11,7 +11,7 @@ from pathlib import Path
 
 ROOT = Path(__file__).resolve().parents[2]
 PAGES = ROOT / 'crates/promises/proofs'
-FUNCTION = re.compile(r'^[ \t]*(?:#\[no_mangle\]\s*)?pub (?:extern "C" )?fn (\w+)(?:<[^>]*>)?(\(.*?\))[^{]*?(?=\n\s*(?:requires|ensures|\{))(.*?)^\{', re.M | re.S)
+FUNCTION = re.compile(r'^[ \t]*(?:#\[unsafe\(no_mangle\)\]\s*)?pub (?:extern "C" )?fn (\w+)(?:<[^>]*>)?(\(.*?\))[^{]*?(?=\n\s*(?:requires|ensures|\{))(.*?)^\{', re.M | re.S)
 
 
 def main():
@@ -20,20 +20,20 @@ def main():
     for crate in sorted(p for p in (ROOT / 'crates').iterdir() if (p / 'src/lib.rt').exists()):
         title = 'Of' + crate.name.capitalize()
         page = PAGES / (title + '.antt')
-        declared = re.findall(r'^  pub ([\w-]+) :', page.read_text(), re.M) if page.exists() else []
+        declared = re.findall(r'^  pub (\w+) :', page.read_text(), re.M) if page.exists() else []
         found = 0
         for path in sorted(crate.glob('src/**/*.rt')):
             code = re.sub(r'//[^\n]*', '', path.read_text())
             for m in FUNCTION.finditer(code):
                 found += 1
-                name = m.group(1).replace('_', '-')
+                name = m.group(1)
                 if re.search(r'^\s*requires\b', m.group(3), re.M):
                     wrong.append(f'{crate.name}: {m.group(1)}: has a requires')
                 lent = m.group(2).count('&mut ')
-                crosses = f'{name}-crosses' in declared
-                left = sum(d.startswith(f'{name}-leaves') for d in declared) + crosses * min(lent, 2)
-                if f'{name}-answers' not in declared and not crosses and not (f'{name}-asks' in declared and (left or f'{name}-one' in declared)):
-                    wrong.append(f'{page.name}: no {name}-answers')
+                crosses = f'{name}_crosses' in declared
+                left = sum(d.startswith(f'{name}_leaves') for d in declared) + crosses * min(lent, 2)
+                if f'{name}_answers' not in declared and not crosses and not (f'{name}_asks' in declared and (left or f'{name}_one' in declared)):
+                    wrong.append(f'{page.name}: no {name}_answers')
                 if left != lent:
                     wrong.append(f'{page.name}: {name} is lent {lent} to write to, and {left} are said to be one')
         total += found

@@ -95,14 +95,15 @@ def is_there(path, name):
 
 # ---- what a promise cites
 
-IMPORT = re.compile(r"use Rattle·(\w+)(?:·\w+)?\.(specs|proofs)\.([\w.]+?)(?:\.\{([^}]*)\}| as ([\w-]+))", re.S)
+IMPORT = re.compile(r"use Rattle\.(\w+)\.(specs|proofs)\.([\w.]+?)(?:\.\{([^}]*)\}| as ([\w-]+))", re.S)
 
 
 def imports(text):
-    """Name in this file to (path, name there); and alias of a whole file to its path."""
+    """Name in this file to (path, name there); and alias of a whole file to its path. What the check makes of the source, in
+    `declared` and `contracts`, stands in no file of the repository, and neither do libraries of the kit, as std."""
     names, files = {}, {}
     for crate, folder, module, listed, alias in IMPORT.findall(text):
-        if module.startswith("declared"):
+        if module.split(".")[0] in ("declared", "contracts") or not (ROOT / "crates" / crate).is_dir():
             continue
         path = f"crates/{crate}/{folder}/{module.replace('.', '/')}.antt"
         if alias:
@@ -114,21 +115,22 @@ def imports(text):
 
 
 def tokens(text):
-    return set(re.split(r"[\s(){}\[\],;⌜⌝]+", text))
+    return set(re.split(r"[\s(){}\[\],;]+", text))
 
 
 def cited(text, names, files):
+    """What the text names: a name, also before the dot of a field that is read of it, or a name of a file's alias."""
     for token in tokens(text):
-        if token in names:
-            yield names[token]
-        head, _, tail = token.partition(".")
-        if head in files and tail:
-            yield files[head], tail
+        head, *fields = token.split(".")
+        if head in names:
+            yield names[head]
+        elif head in files and fields:
+            yield files[head], fields[0]
 
 
 def clauses(contract, word):
-    """The texts of `word { .. }`, braces counted."""
-    for m in re.finditer(rf"\b{word} \{{", contract):
+    """The texts of `word { .. }` and of `word NAME { .. }`, braces counted."""
+    for m in re.finditer(rf"\b{word} (?:\w+ )?\{{", contract):
         depth, i = 1, m.end()
         while depth and i < len(contract):
             depth += {"{": 1, "}": -1}.get(contract[i], 0)
@@ -137,21 +139,23 @@ def clauses(contract, word):
 
 
 PUBLIC = re.compile(r'( *)pub (?:(?:extern "C"|const|unsafe) )*fn (\w+)')
+CLAUSE = re.compile(r"\s*(?:requires|ensures)\b")
 
 
 def contracts(text):
-    """Each public function with the text from its name to its body."""
+    """Each public function with the text from its name to its body, which after a clause begins with a line `{`."""
     lines = text.splitlines()
     for i, line in enumerate(lines):
         m = PUBLIC.match(line)
         if not m:
             continue
-        head = []
+        head, clause = [], False
         for next_line in lines[i:]:
             if next_line == m.group(1) + "{":
                 break
             head.append(next_line)
-            if next_line.endswith("{"):
+            clause = clause or bool(CLAUSE.match(next_line))
+            if next_line.endswith("{") and not clause:
                 break
         yield m.group(2), "\n".join(head)
 
@@ -284,7 +288,7 @@ def hold_decisions():
         say(f"docs/DECISIONS.md: {one} stands twice")
     files = [f for top in ("docs", "crates", "tests", "rust", "include", "examples", "tools", "bench") for f in sorted((ROOT / top).glob("**/*"))]
     for file in [ROOT / "README.md", *files]:
-        if file.suffix not in TEXT or "target" in file.parts:
+        if file.suffix not in TEXT or {"target", "out"} & set(file.relative_to(ROOT).parts):
             continue
         for named in CITED.findall(file.read_text(errors="replace")):
             for one in re.findall(ID, named):
