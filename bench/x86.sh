@@ -1,6 +1,6 @@
 #!/bin/sh
 # x86.sh: instructions per node, entry or count of rt's own x86-64 archive. On x86-64 valgrind counts those between the call of an exported
-# function and its return. Elsewhere an emulator has no times, but it can count: the kit's qemu-x86_64 has no plugins, so it logs every
+# function and its return. Elsewhere an emulator has no times, but it can count: qemu-x86_64, from the PATH or named in QEMU, logs every
 # instruction that it executes of the archive's code (one to a block, blocks not chained) and the lines are counted. The driver's own code
 # is not counted, but for the plain read. An operation is run once and twice, and the difference is one run; that of two sizes, divided
 # by the nodes between them, is free of what a call costs by itself.
@@ -17,9 +17,9 @@ fi
 lib=$archive/libvekalumist_x86.a
 [ -f "$lib" ] || lib=$archive/libvekalumist.a # on x86-64 rt's own is the native one
 doc=$(rt doc)
-tools=${doc%/docs/*}/on/$(uname -m)/toolchain/bin
+tools=${doc%/*}/toolchain/bin
 machine=$(uname -m)
-qemu=${QEMU:-$tools/qemu-x86_64}
+qemu=${QEMU:-$(command -v qemu-x86_64 || :)}
 if [ "$machine" = x86_64 ]; then
     command -v valgrind >/dev/null || { echo "x86.sh: no valgrind" >&2; exit 1; }
 else

@@ -118,7 +118,7 @@ def in_rust(structs):
 crate = "".join(p.read_text() for p in sorted((ROOT / "crates/vekalumist/src").glob("*.rt")))
 functions = {
     name: [exported(p) for p in parameters(given)]
-    for name, given in re.findall(r'#\[no_mangle\]\npub extern "C" fn (\w+)\(([^)]*)\) -> u64\b', crate)
+    for name, given in re.findall(r'#\[unsafe\(no_mangle\)\]\npub extern "C" fn (\w+)\(([^)]*)\) -> u64\b', crate)
 }
 same("exported functions that are not mangled and give a u64", len(functions), crate.count('extern "C" fn'))
 if not functions:
