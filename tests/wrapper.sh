@@ -187,17 +187,7 @@ echo "small program: $(tail -n 1 "$work/program.log")"
 step script sh tests/mast_layout/script.sh
 echo "its script: $(tail -n 1 "$work/script.log")"
 
-# the small program as one word, started as its script does
-kit=$(rt doc)
-tools=${kit%/*}/toolchain/lib
-emulator=
-[ "$(uname -m)" = x86_64 ] || emulator=qemu-x86_64
-cat >"$work/small" <<SMALL
-#!/bin/sh
-exec $emulator "$tools/ld-linux-x86-64.so.2" --library-path "$tools" "$root/crates/mast_layout/out/mast_layout" "\$@"
-SMALL
-chmod +x "$work/small"
-step mast_run python3 tests/mast/run.py "$mast" "$work/small"
+step mast_run python3 tests/mast/run.py "$mast" "$root/crates/mast_layout/out/mast_layout"
 echo "mast: $(grep ' took ' "$work/mast_run.log"); $(tail -n 1 "$work/mast_run.log")"
 
 step beside_rust cargo run --release --offline --manifest-path tests/beside_rust/Cargo.toml

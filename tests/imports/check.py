@@ -4,9 +4,10 @@
     check.py         says what is unused, by file and line
     check.py --fix   takes unused names out of the imports
 
-A name counts as used if it stands anywhere else in its file outside comments; an operator `◌+◌` where `+` stands. A law (a `pub` name declared in
-proofs/*.antt; those of crate promises are the conclusions) counts as cited if it stands anywhere but in its own declaration, in a file under
-crates/ or in a paper under docs/. Names are compared as words, so a law that shares its name with something else counts as cited.
+A name counts as used if it stands anywhere else in its file outside comments; an operator `◌+◌` where `+` stands, a trait of std where one of its
+functions is called. A law (a `pub` name declared in proofs/*.antt; those of crate promises are the conclusions) counts as cited if it stands
+anywhere but in its own declaration, in a file under crates/ or in a paper under docs/. Names are compared as words, so a law that shares its name
+with something else counts as cited.
 """
 import re
 import sys
@@ -16,6 +17,7 @@ from pathlib import Path
 ROOT = Path(__file__).resolve().parents[2]
 USE = re.compile(r'^[ \t]*(?:ghost )?use\s+([^;\n{]+?)(?:(?:\.|::)\{([^}]*)\}|\s+as\s+(\S+?))?;?[ \t]*$', re.M)
 WORD = re.compile(r'\[\][^\s(){},;.«»"\[\]`⌜⌝]*|[^\s(){},;.«»"\[\]`⌜⌝]+')
+CALLED = {'Read': {'read', 'read_exact', 'read_to_end'}, 'Write': {'write', 'write_all', 'flush'}}
 DECLARED = re.compile(r'^( *)(?:(?:abbrev|unfoldable)\s+)?pub\s+([^\s:]+)\s*:', re.M)
 
 
@@ -39,7 +41,7 @@ def words(code):
 
 
 def is_used(name, found):
-    return name in found or '◌' in name and all(p in found for p in name.split('◌') if p)
+    return name in found or '◌' in name and all(p in found for p in name.split('◌') if p) or bool(CALLED.get(name, set()) & found)
 
 
 def unused(code):
