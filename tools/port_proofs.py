@@ -428,8 +428,8 @@ def convert(crate, key, data, folder):
         if SELF.match(body.strip()) and not unfolding:
             continue
         used = {}
-        if len(params) > 1 and re.search(r"(?<![\w'.-])" + re.escape(params[1]) + r"(?![\w'-])", body):
-            said.append(f"{new} uses {params[1]}")
+        # a `requires` was asked at the lifetimes too; what else is named is a premise of the goal
+        more = params[2:] if old.split("-")[-1].startswith("requires") or re.search(r"-requires(?:-\d+)?$", old) else params[1:]
         env = {params[0]: place} if params[0] != "_" else {}
         b = whole_ensures(fn, fn.turn(body, env, used))
         if old in data["asked"]:
@@ -440,7 +440,7 @@ def convert(crate, key, data, folder):
             unfolding = list(dict.fromkeys(list(unfolding) + sorted(made[1])))
         unf = "unfolding " + " ".join(unfolding) + "\n" if unfolding else ""
         note = "\n".join(notes) + "\n" if notes else ""
-        goals.append(f"{note}pub {new} : goal.{new}\n{unf}{new} c ={lets}\n    {b.strip()}\n")
+        goals.append(f"{note}pub {new} : goal.{new}\n{unf}{' '.join([new, 'c'] + more)} ={lets}\n    {b.strip()}\n")
     for d in decls[:-1]:
         if d.name in taken["used"] or d.name in inv_names or fn.helper(d.name):
             continue

@@ -1,5 +1,5 @@
 -- What a case has to have recorded of each call, over what it gives.
-use Rattle.std.specs.Prelude.{ℕ, ◌-◌, ◌%◌, not, List, [], ◌∷◌, ◌++◌, length, take, ◌==◌, slice_index, slice_index_or, slice_range}
+use Rattle.std.specs.Prelude.{ℕ, ◌%◌, not, List, [], ◌∷◌, ◌++◌, length, take, ◌==◌, slice_index, slice_index_or, slice_range}
 use Rattle.wire.specs.Table.{Outcome}
 use Rattle.wire.specs.Counts.{shortest_len, write_outcome, with_count}
 use Rattle.advice.specs.Walk.{key_table}
