@@ -1,9 +1,7 @@
 #!/bin/sh
-# x86.sh: instructions per node, entry or count of rt's own x86-64 archive. On x86-64 valgrind counts those between the call of an exported
-# function and its return. Elsewhere an emulator has no times, but it can count: qemu-x86_64, from the PATH or named in QEMU, logs every
-# instruction that it executes of the archive's code (one to a block, blocks not chained) and the lines are counted. The driver's own code
-# is not counted, but for the plain read. An operation is run once and twice, and the difference is one run; that of two sizes, divided
-# by the nodes between them, is free of what a call costs by itself.
+# x86.sh: instructions per node, entry or count of the archive. valgrind counts those between the call of an exported function and its return:
+# the driver's own code is not counted, but for the plain read. An operation is run once and twice, and the difference is one run; that of
+# two sizes, divided by the nodes between them, is free of what a call costs by itself.
 # VEKALUMIST_ARCHIVE names the folder of the archive; else tools/archive.sh makes it.
 set -eu
 here=$(cd "$(dirname "$0")" && pwd)
@@ -14,17 +12,9 @@ if [ -z "$archive" ]; then
     archive=$work/archive
     sh "$here/../tools/archive.sh" "$here/.." "$archive"
 fi
-lib=$archive/libvekalumist_x86.a
-[ -f "$lib" ] || lib=$archive/libvekalumist.a # on x86-64 rt's own is the native one
-doc=$(rt doc)
-tools=${doc%/*}/toolchain/bin
-machine=$(uname -m)
-qemu=${QEMU:-$(command -v qemu-x86_64 || :)}
-if [ "$machine" = x86_64 ]; then
-    command -v valgrind >/dev/null || { echo "x86.sh: no valgrind" >&2; exit 1; }
-else
-    [ -x "$qemu" ] || { echo "x86.sh: no qemu-x86_64; name one in QEMU" >&2; exit 1; }
-fi
+lib=$archive/libvekalumist.a
+tools=$(dirname "$(rt doc)")/toolchain/bin
+command -v valgrind >/dev/null || { echo "x86.sh: no valgrind" >&2; exit 1; }
 
 "$tools/clang" --target=x86_64-unknown-linux-gnu --no-default-config -march=x86-64 -O2 -ffreestanding -fno-builtin \
     -fno-stack-protector -fno-pie -c "$here/x86.c" -o "$work/x86.o"
@@ -32,14 +22,9 @@ fi
 
 # count OPERATION SIZE TIMES: the instructions of a whole run
 count() {
-    if [ "$machine" = x86_64 ]; then
-        valgrind --tool=callgrind --callgrind-out-file=/dev/null --collect-atstart=no --toggle-collect='veka_*' --toggle-collect=plain \
-            "$work/x86" "$@" 2>"$work/x86.log" || return 1
-        sed -n 's/.*Collected : //p' "$work/x86.log"
-        return
-    fi
-    "$qemu" -one-insn-per-tb -d exec,nochain -dfilter 0x400000+0x400000 -D "$work/x86.log" "$work/x86" "$@" || return 1
-    grep -c '^Trace' "$work/x86.log"
+    valgrind --tool=callgrind --callgrind-out-file=/dev/null --collect-atstart=no --toggle-collect='veka_*' --toggle-collect=plain \
+        "$work/x86" "$@" 2>"$work/x86.log" || return 1
+    sed -n 's/.*Collected : //p' "$work/x86.log"
 }
 
 # once OPERATION SIZE: the instructions of one run of the operation

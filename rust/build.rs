@@ -28,9 +28,7 @@ fn cargo_says(name: &str) -> String {
     env::var(name).unwrap_or_else(|_| fail(&format!("cargo has not set {name}")))
 }
 
-const ONE_FOR_EACH: &str =
-    "tools/archive.sh REPO OUT makes one for the machine that it runs on, x86_64 or aarch64; name its folder OUT in \
-                            VEKALUMIST_ARCHIVE.";
+const ONE_FOR_EACH: &str = "tools/archive.sh REPO OUT makes one for x86_64; name its folder OUT in VEKALUMIST_ARCHIVE.";
 
 /// The archive is linked only if it is for the machine that is built for.
 fn hold_to_machine(archive: &Path) {
@@ -75,8 +73,9 @@ fn made() -> PathBuf {
     let out = PathBuf::from(cargo_says("OUT_DIR"));
     let repository = package.parent().unwrap_or_else(|| fail("this package is a folder of its repository, and stands alone here"));
     // the archive itself is not named here: it is newer than the start of the run that makes it
-    for input in ["crates", "crates.txt", "tools/archive.sh"] {
-        println!("cargo::rerun-if-changed={}", repository.join(input).display());
+    for input in ["crates.txt", "tools/archive.sh"].map(|input| repository.join(input)).into_iter().chain(parts(&repository.join("crates")))
+    {
+        println!("cargo::rerun-if-changed={}", input.display());
     }
     // rt builds for the machine that it runs on: nothing is proved for another
     let (target, host) = (cargo_says("TARGET"), cargo_says("HOST"));
@@ -103,27 +102,45 @@ fn made() -> PathBuf {
     }
 }
 
-/// Copies what rt proves. What an earlier run proved stays in the copy's target/, and rt takes it for what has not changed.
-fn copied(repository: &Path, source: &Path) -> io::Result<()> {
-    let crates = source.join("crates");
-    if crates.exists() {
-        fs::remove_dir_all(&crates)?;
-    }
-    fs::create_dir_all(source)?;
-    fs::copy(repository.join("crates.txt"), source.join("crates.txt"))?;
-    copied_folder(&repository.join("crates"), &crates)
+/// What is in a folder; nothing where there is none.
+fn within(folder: &Path) -> Vec<PathBuf> {
+    fs::read_dir(folder).into_iter().flatten().flatten().map(|entry| entry.path()).collect()
 }
 
-fn copied_folder(from: &Path, to: &Path) -> io::Result<()> {
+/// What each crate has, but for the folder `out`, in which rt keeps its own.
+fn parts(crates: &Path) -> Vec<PathBuf> {
+    within(crates).iter().flat_map(|one| within(one)).filter(|part| !part.ends_with("out")).collect()
+}
+
+/// Copies what rt proves. What an earlier run proved stays in the copy's out folders, and rt takes it for what has not changed.
+fn copied(repository: &Path, source: &Path) -> io::Result<()> {
+    let (from, to) = (repository.join("crates"), source.join("crates"));
+    for part in parts(&to) {
+        if part.is_dir() {
+            fs::remove_dir_all(part)?
+        } else {
+            fs::remove_file(part)?
+        }
+    }
+    fs::create_dir_all(&to)?;
+    fs::copy(repository.join("crates.txt"), source.join("crates.txt"))?;
+    for part in parts(&from) {
+        if let Ok(name) = part.strip_prefix(&from) {
+            copied_part(&part, &to.join(name))?;
+        }
+    }
+    Ok(())
+}
+
+fn copied_part(from: &Path, to: &Path) -> io::Result<()> {
+    if !from.is_dir() {
+        to.parent().map_or(Ok(()), fs::create_dir_all)?;
+        return fs::copy(from, to).map(|_| ());
+    }
     fs::create_dir_all(to)?;
     for entry in fs::read_dir(from)? {
         let entry = entry?;
-        let to = to.join(entry.file_name());
-        if entry.file_type()?.is_dir() {
-            copied_folder(&entry.path(), &to)?;
-        } else {
-            fs::copy(entry.path(), to)?;
-        }
+        copied_part(&entry.path(), &to.join(entry.file_name()))?;
     }
     Ok(())
 }

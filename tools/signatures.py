@@ -1,7 +1,7 @@
 #!/usr/bin/env python3
 """signatures.py: what a compiler of one language cannot see, and the linker does not look at. The raw C header and the Rust declarations have
-each exported function just as crates/vekalumist declares it, and no other; those of the comparison are among them. A struct has as many
-numbers as the array it stands for; each function that takes a slice has its inline one, which hands on what it is given; names, version,
+each exported function just as crates/vekalumist_c declares it, and no other; those of the comparison are among them. Each exported function has
+the parameters and the promises of crates/vekalumist's function of its name, and calls it. A struct has as many numbers as the array it stands for; each function that takes a slice has its inline one, which hands on what it is given; names, version,
 refusals and kinds are the same everywhere. Says what it held together, and fails where something differs."""
 import pathlib, re, sys
 
@@ -67,7 +67,7 @@ def as_array(fields):
     return f"[{kinds.pop()}; {len(fields)}]" if len(kinds) == 1 else f"a struct of {sorted(kinds)}"
 
 
-# ---- functions: parameters by name, as crates/vekalumist writes them
+# ---- functions: parameters by name, as crates/vekalumist_c writes them
 
 
 def slices(parameters):
@@ -115,14 +115,32 @@ def in_rust(structs):
     return one
 
 
-crate = "".join(p.read_text() for p in sorted((ROOT / "crates/vekalumist/src").glob("*.rt")))
-functions = {
-    name: [exported(p) for p in parameters(given)]
-    for name, given in re.findall(r'#\[unsafe\(no_mangle\)\]\npub extern "C" fn (\w+)\(([^)]*)\) -> u64\b', crate)
-}
-same("exported functions that are not mangled and give a u64", len(functions), crate.count('extern "C" fn'))
+def sources(crate):
+    """By module; lib is the crate itself."""
+    return {p.stem: p.read_text() for p in sorted((ROOT / "crates" / crate / "src").glob("*.rt"))}
+
+
+def declared_in(module, head):
+    """Each function: what it is given, its promises and its body."""
+    found = re.findall(rf"^{head}fn (\w+)\(([^)]*)\) -> u64\n(.*?)^\{{\n(.*?)^\}}", module, re.M | re.S)
+    return {name: (parameters(given), words(promises), words(body)) for name, given, promises, body in found}
+
+
+EXPORT = r'#\[unsafe\(no_mangle\)\]\npub extern "C" '
+exports = {name: declared_in(module, EXPORT) for name, module in sources("vekalumist_c").items()}
+library = sources("vekalumist")
+functions = {name: [exported(p) for p in given] for module in exports.values() for name, (given, _, _) in module.items()}
+same("exported functions that are not mangled and give a u64", len(functions), "".join(sources("vekalumist_c").values()).count("fn "))
 if not functions:
-    wrong.append("crates/vekalumist exports nothing")
+    wrong.append("crates/vekalumist_c exports nothing")
+for module in sorted(exports.keys() | library.keys()):
+    own = declared_in(library.get(module, ""), "pub ")
+    for name in sorted(exports.get(module, {}).keys() | {name for name in own if name.startswith("veka_")}):
+        given, promises, body = exports.get(module, {}).get(name, ([], "", ""))
+        at = "" if module == "lib" else f"{module}::"
+        handed = re.sub(r"\(\s*", "(", re.sub(r",? \)$", ")", body))
+        same(f"{name}: the export", (given, promises), own.get(name, ("not there",))[:2])
+        same(f"{name}: what the export calls", handed, f"vekalumist::{at}{name}({', '.join(exported(p)[0] for p in given)})")
 for name, given in functions.items():
     takes = any(re.match(r"&(mut )?\[\w+\]$", kind) for _, kind in given)
     same(f"{name}: its name says that it takes a slice", name.startswith("veka_raw_"), takes)
@@ -199,7 +217,7 @@ def shouted(name):
 
 
 defined = {name: int(number) for name, number in re.findall(r"#define VEKA_(\w+) (\d+)", header)}
-version = re.search(r"\nconst VERSION: u64 = (\d+);", crate)
+version = re.search(r"\nconst VERSION: u64 = (\d+);", library["lib"])
 package = [int(n) for n in re.search(r'^version = "(\d+)\.(\d+)\.(\d+)"', text("rust/Cargo.toml"), re.M).groups()]
 same("VEKA_VERSION", defined.get("VERSION"), version and int(version[1]))
 same("rust/Cargo.toml: version", package[0] * 10000 + package[1] * 100 + package[2], version and int(version[1]))

@@ -118,7 +118,7 @@ def head(*cells):
 
 def crates():
     """In the order of crates.txt."""
-    return re.findall(r"^(\w+):", (ROOT / "crates.txt").read_text(), re.M)
+    return re.findall(r"^(\w+)(?: staticlib)?:", (ROOT / "crates.txt").read_text(), re.M)
 
 
 def sizes(tried, listed):
@@ -175,12 +175,12 @@ def others():
     if said != f"{cases} agree in all":
         faults.append(f"crates/recorded: stdin has {cases} cases, and stdout ends: {said}")
     decisions = re.findall(r"^- \*\*\w+-\d+\*\*", (ROOT / "docs/DECISIONS.md").read_text(), re.M)
-    c_functions = [name for path in sorted(ROOT.glob("crates/vekalumist/src/*.rt")) for name in re.findall(r'pub extern "C" fn veka_', path.read_text())]
+    c_functions = [name for path in sorted(ROOT.glob("crates/vekalumist_c/src/*.rt")) for name in re.findall(r'pub extern "C" fn veka_', path.read_text())]
     refusals = re.findall(r"Refusal::\w+ => \d+", (ROOT / "crates/wire/src/refusal.rt").read_text())
     return (
         head("what", "how many")
         + row("refusals (`crates/wire/src/refusal.rt`)", len(refusals))
-        + row("exported C functions (`crates/vekalumist/src`)", len(c_functions))
+        + row("exported C functions (`crates/vekalumist_c/src`)", len(c_functions))
         + row("recorded cases (`crates/recorded/stdin`)", cases)
         + row("rows of docs/SPEC-MAP.md: sentences", map_rows("Sentences"))
         + row("rows of docs/SPEC-MAP.md: definitions", map_rows("Definitions"))

@@ -2,7 +2,7 @@
 """Every public function has no `requires`, and its lines on the page of its crate (crates/promises/proofs/OfCRATE.antt): that it asks nothing and
 allows one answer (NAME_answers; or, where no plain result is promised, NAME_asks with NAME_one or NAME_leaves), and for all memory that it is lent to
 write to that what it leaves is one (NAME_leaves..). NAME_crosses says it of an exported function's number, of its answer where it has one, and
-of its place. Main names every page.
+of its place. Main names every page. A static library has no page: its functions promise what a library's of their names do (tools/signatures.py).
 Fails with what is missing.
 """
 import re
@@ -11,13 +11,14 @@ from pathlib import Path
 
 ROOT = Path(__file__).resolve().parents[2]
 PAGES = ROOT / 'crates/promises/proofs'
-FUNCTION = re.compile(r'^[ \t]*(?:#\[unsafe\(no_mangle\)\]\s*)?pub (?:extern "C" )?fn (\w+)(?:<[^>]*>)?(\(.*?\))[^{]*?(?=\n\s*(?:requires|ensures|\{))(.*?)^\{', re.M | re.S)
+FUNCTION = re.compile(r'^[ \t]*pub fn (\w+)(?:<[^>]*>)?(\(.*?\))[^{]*?(?=\n\s*(?:requires|ensures|\{))(.*?)^\{', re.M | re.S)
 
 
 def main():
     wrong, total = [], 0
     main_page = (PAGES / 'Main.antt').read_text()
-    for crate in sorted(p for p in (ROOT / 'crates').iterdir() if (p / 'src/lib.rt').exists()):
+    static = set(re.findall(r'^(\w+) staticlib:', (ROOT / 'crates.txt').read_text(), re.M))
+    for crate in sorted(p for p in (ROOT / 'crates').iterdir() if (p / 'src/lib.rt').exists() and p.name not in static):
         title = 'Of' + crate.name.capitalize()
         page = PAGES / (title + '.antt')
         declared = re.findall(r'^  pub (\w+) :', page.read_text(), re.M) if page.exists() else []

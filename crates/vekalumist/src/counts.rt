@@ -9,8 +9,7 @@ use wire::count::{CountRead, CountWritten, read_count, shortest_len, write_count
 use wire::units::ByteOffset;
 
 // The count at a place: its value, its length, the place after it, and whether its length is the shortest.
-#[unsafe(no_mangle)]
-pub extern "C" fn veka_raw_read_count(
+pub fn veka_raw_read_count(
     s: &[u8],
     at: usize,
     count: &mut [u64; 4],
@@ -31,16 +30,14 @@ pub extern "C" fn veka_raw_read_count(
 }
 
 // The length of a number's shortest form.
-#[unsafe(no_mangle)]
-pub extern "C" fn veka_shortest_len(v: u64) -> u64
+pub fn veka_shortest_len(v: u64) -> u64
     ensures { result ≡ shortest_len v }
 {
     shortest_len(v) as u64
 }
 
 // A number stored in its shortest form: the place after it.
-#[unsafe(no_mangle)]
-pub extern "C" fn veka_raw_write_count(
+pub fn veka_raw_write_count(
     out: &mut [u8],
     at: usize,
     v: u64,

@@ -27,8 +27,7 @@ fn tell_digest(read: DigestRead, digest: &mut [u64; 4], place: &mut u64) -> u64
 }
 
 // The digest of a node, its slot counted.
-#[unsafe(no_mangle)]
-pub extern "C" fn veka_raw_digest(
+pub fn veka_raw_digest(
     s: &[u8],
     layout: &[u64; 12],
     index: usize,
@@ -47,8 +46,7 @@ pub extern "C" fn veka_raw_digest(
 }
 
 // The digest of a node, its slot taken from a slot table.
-#[unsafe(no_mangle)]
-pub extern "C" fn veka_raw_digest_with_table(
+pub fn veka_raw_digest_with_table(
     s: &[u8],
     layout: &[u64; 12],
     index: usize,
@@ -68,8 +66,7 @@ pub extern "C" fn veka_raw_digest_with_table(
 }
 
 // The slot table of the nodes, in the lent table: what is left of the bound.
-#[unsafe(no_mangle)]
-pub extern "C" fn veka_raw_slots(
+pub fn veka_raw_slots(
     s: &[u8],
     layout: &[u64; 12],
     bound: &[u64; 2],

@@ -24,8 +24,7 @@ const ID_LIMIT: u64 = 0x4000_0000;
 const SINGLE_MAX: u64 = 0xFFFF_FFFF;
 
 // The entry of a word: its kind and two numbers.
-#[unsafe(no_mangle)]
-pub extern "C" fn veka_decode_entry(word: u64, entry: &mut [u64; 3], place: &mut u64) -> u64
+pub fn veka_decode_entry(word: u64, entry: &mut [u64; 3], place: &mut u64) -> u64
     ensures value { result ≡ number_in (decode_call word) }
     ensures after { entry.new ≡ answered entry.old (decode_call word) }
     ensures place_after { place.new ≡ placed place.old (decode_call word) }
@@ -59,8 +58,7 @@ fn low(n: u64) -> u32
 }
 
 // The word of an entry, which is given as its kind and two numbers.
-#[unsafe(no_mangle)]
-pub extern "C" fn veka_encode_entry(entry: &[u64; 3], word: &mut u64, place: &mut u64) -> u64
+pub fn veka_encode_entry(entry: &[u64; 3], word: &mut u64, place: &mut u64) -> u64
     ensures value { result ≡ number_in (encode_call entry.now) }
     ensures word_after { word.new ≡ answered word.old (encode_call entry.now) }
     ensures place_after { place.new ≡ placed place.old (encode_call entry.now) }
@@ -128,8 +126,7 @@ fn entry_of_row(s: &[u8], first: ByteOffset, i: usize, entry: &mut [u64; 3], pla
 }
 
 // The entry of a node. Of the layout it reads two numbers: how many nodes there are, and where their entries start.
-#[unsafe(no_mangle)]
-pub extern "C" fn veka_raw_entry(
+pub fn veka_raw_entry(
     s: &[u8],
     layout: &[u64; 12],
     index: usize,

@@ -12,8 +12,7 @@ use layout::scan::{Scan, scan_layout};
 use wire::refusal::Refusal;
 
 // The flags byte.
-#[unsafe(no_mangle)]
-pub extern "C" fn veka_raw_flags(s: &[u8], flags: &mut u8, place: &mut u64) -> u64
+pub fn veka_raw_flags(s: &[u8], flags: &mut u8, place: &mut u64) -> u64
     ensures value { result ≡ number_in (flags_call s.now) }
     ensures flags_after { flags.new ≡ answered flags.old (flags_call s.now) }
     ensures place_after { place.new ≡ placed place.old (flags_call s.now) }
@@ -26,8 +25,7 @@ pub extern "C" fn veka_raw_flags(s: &[u8], flags: &mut u8, place: &mut u64) -> u
 }
 
 // The layout of a file, and how many of its four counts are long.
-#[unsafe(no_mangle)]
-pub extern "C" fn veka_raw_scan(
+pub fn veka_raw_scan(
     s: &[u8],
     marks: &[u8; 9],
     max_nodes: usize,
@@ -51,8 +49,7 @@ pub extern "C" fn veka_raw_scan(
 }
 
 // The root at an index.
-#[unsafe(no_mangle)]
-pub extern "C" fn veka_raw_root(
+pub fn veka_raw_root(
     s: &[u8],
     layout: &[u64; 12],
     index: usize,
@@ -84,8 +81,7 @@ fn tell_check(check: NodeCheck, place: &mut u64) -> u64
 }
 
 // Whether every child is below its parent.
-#[unsafe(no_mangle)]
-pub extern "C" fn veka_raw_children(s: &[u8], layout: &[u64; 12], place: &mut u64) -> u64
+pub fn veka_raw_children(s: &[u8], layout: &[u64; 12], place: &mut u64) -> u64
     ensures value { result ≡ number_in (children_call s.now layout.now) }
     ensures place_after { place.new ≡ placed place.old (children_call s.now layout.now) }
 {
@@ -93,8 +89,7 @@ pub extern "C" fn veka_raw_children(s: &[u8], layout: &[u64; 12], place: &mut u6
 }
 
 // Whether the nodes are in order.
-#[unsafe(no_mangle)]
-pub extern "C" fn veka_raw_order(s: &[u8], layout: &[u64; 12], place: &mut u64) -> u64
+pub fn veka_raw_order(s: &[u8], layout: &[u64; 12], place: &mut u64) -> u64
     ensures value { result ≡ number_in (order_call s.now layout.now) }
     ensures place_after { place.new ≡ placed place.old (order_call s.now layout.now) }
 {
@@ -102,8 +97,7 @@ pub extern "C" fn veka_raw_order(s: &[u8], layout: &[u64; 12], place: &mut u64) 
 }
 
 // Whether every entry stands in its written form.
-#[unsafe(no_mangle)]
-pub extern "C" fn veka_raw_strict(s: &[u8], layout: &[u64; 12], place: &mut u64) -> u64
+pub fn veka_raw_strict(s: &[u8], layout: &[u64; 12], place: &mut u64) -> u64
     ensures value { result ≡ number_in (strict_call s.now layout.now) }
     ensures place_after { place.new ≡ placed place.old (strict_call s.now layout.now) }
 {

@@ -1,4 +1,5 @@
-// The exported functions: each asks one function of the crates below, over arrays of fixed length and lent slices, and stores what it says.
+// The functions that crate vekalumist_c exports: each asks one function of the crates below, over arrays of fixed length and lent slices, and
+// stores what it says.
 // Returned is 0, and the lent answer holds the answer; or a refusal's number, and the lent place holds its place. What is not stored stays as
 // it was. A function that takes a slice has `raw` in its name: the C header's functions without it also take a null pointer of length 0.
 #![tactic(auto)]
@@ -17,8 +18,7 @@ ghost use Rattle.vekalumist.specs.Calls.{version};
 const VERSION: u64 = 400;
 
 // The version that is linked.
-#[unsafe(no_mangle)]
-pub extern "C" fn veka_version() -> u64
+pub fn veka_version() -> u64
     ensures { result ≡ version }
 {
     VERSION

@@ -25,8 +25,7 @@ fn bytes_after(s: &[u8], at: usize) -> u64
 }
 
 // How many places of a key table are enough for the map at a place.
-#[unsafe(no_mangle)]
-pub extern "C" fn veka_raw_places(s: &[u8], at: usize) -> u64
+pub fn veka_raw_places(s: &[u8], at: usize) -> u64
     ensures { result ≡ places_needed s.now at }
 {
     most_places(s, ByteOffset(at)) as u64
@@ -34,8 +33,7 @@ pub extern "C" fn veka_raw_places(s: &[u8], at: usize) -> u64
 
 // The map at a place, its key offsets in the lent table: the number of entries, the place after it, the bytes that follow
 // it, and how many of its counts are long.
-#[unsafe(no_mangle)]
-pub extern "C" fn veka_raw_walk(
+pub fn veka_raw_walk(
     s: &[u8],
     at: usize,
     keys: &mut [u64],
@@ -76,8 +74,7 @@ fn tell_key(read: KeyRead, key: &mut [u64; 4], place: &mut u64) -> u64
 }
 
 // The key at a place of a table.
-#[unsafe(no_mangle)]
-pub extern "C" fn veka_raw_key(
+pub fn veka_raw_key(
     s: &[u8],
     keys: &[u64],
     index: usize,
@@ -116,8 +113,7 @@ fn tell_map_entry(read: MapEntryRead, entry: &mut [u64; 6], place: &mut u64) -> 
 }
 
 // The entry of the map at a place of a table: its key, the number of its values, the place of the first.
-#[unsafe(no_mangle)]
-pub extern "C" fn veka_raw_map_entry(
+pub fn veka_raw_map_entry(
     s: &[u8],
     keys: &[u64],
     index: usize,
@@ -132,8 +128,7 @@ pub extern "C" fn veka_raw_map_entry(
 }
 
 // The values of a key: whether it is there, their place and number, the keys compared.
-#[unsafe(no_mangle)]
-pub extern "C" fn veka_raw_lookup(
+pub fn veka_raw_lookup(
     s: &[u8],
     keys: &[u64],
     n: usize,
@@ -163,8 +158,7 @@ pub extern "C" fn veka_raw_lookup(
 }
 
 // The values of a key as a part of the file: whether it is there, its place and its number of bytes.
-#[unsafe(no_mangle)]
-pub extern "C" fn veka_raw_values(
+pub fn veka_raw_values(
     s: &[u8],
     keys: &[u64],
     n: usize,

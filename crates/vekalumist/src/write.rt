@@ -9,8 +9,7 @@ use crossing::facts_of;
 use writer::file::{ForestWrite, write_forest_hinted};
 
 // The file of lent parts, at the start of the output: its length. `order` claims how the keys rise; it changes the time and nothing else.
-#[unsafe(no_mangle)]
-pub extern "C" fn veka_raw_write(
+pub fn veka_raw_write(
     marks: &[u8; 9],
     max_nodes: usize,
     flags: u8,

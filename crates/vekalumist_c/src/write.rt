@@ -1,0 +1,35 @@
+// The writer.
+ghost use Rattle.std.specs.Prelude.{◌≡◌, length};
+ghost use Rattle.writer.specs.Shown.{lent};
+ghost use Rattle.vekalumist.specs.Answers.{number_in, answered, placed};
+ghost use Rattle.vekalumist.specs.Calls.{write_call, write_after};
+
+// The file of lent parts, at the start of the output: its length. `order` claims how the keys rise; it changes the time and nothing else.
+#[unsafe(no_mangle)]
+pub extern "C" fn veka_raw_write(
+    marks: &[u8; 9],
+    max_nodes: usize,
+    flags: u8,
+    roots: &[u32],
+    blocks: &[u8],
+    words: &[u64],
+    external: &[u8],
+    hashes: &[u8],
+    keys: &[u64],
+    lengths: &[u64],
+    values: &[u64],
+    order: &[u64],
+    out: &mut [u8],
+    size: &mut u64,
+    place: &mut u64,
+) -> u64
+    ensures value { result ≡ number_in (write_call marks.now max_nodes (lent flags roots.now blocks.now words.now external.now hashes.now keys.now lengths.now values.now) (length out.old)) }
+    ensures size_after { size.new ≡ answered size.old (write_call marks.now max_nodes (lent flags roots.now blocks.now words.now external.now hashes.now keys.now lengths.now values.now) (length out.old)) }
+    ensures place_after { place.new ≡ placed place.old (write_call marks.now max_nodes (lent flags roots.now blocks.now words.now external.now hashes.now keys.now lengths.now values.now) (length out.old)) }
+    ensures out_after { out.new ≡ write_after marks.now max_nodes (lent flags roots.now blocks.now words.now external.now hashes.now keys.now lengths.now values.now) out.old }
+{
+    vekalumist::write::veka_raw_write(
+        marks, max_nodes, flags, roots, blocks, words, external, hashes, keys, lengths, values,
+        order, out, size, place,
+    )
+}
