@@ -9,12 +9,7 @@ use wire::count::{CountRead, CountWritten, read_count, shortest_len, write_count
 use wire::units::ByteOffset;
 
 // The count at a place: its value, its length, the place after it, and whether its length is the shortest.
-pub fn veka_raw_read_count(
-    s: &[u8],
-    at: usize,
-    count: &mut [u64; 4],
-    place: &mut u64,
-) -> u64
+pub fn veka_raw_read_count(s: &[u8], at: usize, count: &mut [u64; 4], place: &mut u64) -> u64
     ensures value { result ≡ number_in (count_call s.now at) }
     ensures count_after { count.new ≡ answered count.old (count_call s.now at) }
     ensures place_after { place.new ≡ placed place.old (count_call s.now at) }
