@@ -17,7 +17,7 @@ HERE = Path(__file__).resolve().parent
 ROOT = HERE.parents[1]
 SHAPE = re.compile(
     r"can be named|has no field|is not a field|has no `|unknown name|is no name|not in scope|unexpected|expected a |expected the end"
-    r"|operand is missing|cannot continue|can import|no clause covers"
+    r"|operand is missing|cannot continue|can import|already brought in|no clause covers"
 )
 
 
