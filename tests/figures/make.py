@@ -143,7 +143,7 @@ def sizes(tried, listed):
 
 
 def sized(name, numbers):
-    ratio = f"{numbers[2] / numbers[0]:.1f}" if numbers[0] else ""
+    ratio = f"{numbers[2] / numbers[0]:.1f}" if numbers[0] and numbers[2] else ""
     return row(name, *(n or "" for n in numbers[:3]), ratio, *(n or "" for n in numbers[3:]))
 
 
