@@ -83,6 +83,12 @@ def declarations(text):
         yield name, defined, defined and bool(re.search(r"(?:^|→ )Type 0\s*$", said))
 
 
+def used(texts, name):
+    """The files that have a name outside comments."""
+    whole = re.compile(r"(?<![\w'-])" + re.escape(name) + r"(?![\w'-])")
+    return {f for f, text in texts.items() if whole.search(re.sub(r"--(?= ).*", "", text))}
+
+
 def table(root):
     """Old name to new name, of every name that changes."""
     texts = {f: read(f) for f in files(root, "crates/*/specs/**/*.antt", "crates/*/proofs/**/*.antt")}
@@ -113,7 +119,9 @@ def table(root):
         if len(names) > 1:
             own = [n for n in names if n in functions] or [n for n in names if "-" not in n and n != to]
             for n in names:
-                if n != own[0]:
+                # one of specs/ that no file has beside the other keeps its own name
+                apart = any("/specs/" in f for f in declared[n]) and not used(texts, n) & used(texts, own[0])
+                if n != own[0] and not apart:
                     new[n] = to + "_lem"
     return {n: to for n, to in new.items() if n != to}, declared
 

@@ -1,8 +1,8 @@
 #!/usr/bin/env python3
 """Turns a crate's proofs by hand, proofs/F/Proof.antt over `tie.spec`, to Invariants.antt and Answers.antt, once, after port.py and port_names.py.
 
-    cd crates/NAME && rt check --generated /tmp/names --old-names
-    tools/port_proofs.py crates/NAME /tmp/names/names.json [F ..]
+    cd crates/NAME && rt check --generated DIR --old-names
+    tools/port_proofs.py crates/NAME DIR/names.json [F ..]
 
 names.json has, for each function, its goals and the steps of its code by the name that each had and has. An answer that only calls a tactic which
 the check tries by itself is dropped. A step is named from `c` alone: `c.before.before.args.s` is c.args.s. A helper over a step of the code becomes a

@@ -14,7 +14,7 @@ use Rattle.layout.specs.declared.facts.FormatFacts.{FormatFacts}
 use Rattle.text.specs.Text.{bytes, filled, longest, text_outcome, with_text}
 use Rattle.text.specs.Marks.{before, past}
 use Rattle.text.specs.Shown.{text_len}
-use Rattle.page.specs.Words.{stand_in_lem, no_facts, words_check, facts_beside}
+use Rattle.page.specs.Words.{stand_in, no_facts, words_check, facts_beside}
 use Rattle.page.specs.Answer.{answer_text}
 use Rattle.page.specs.Program.{word_at, word_count, command_check, command_facts, is_wrong, command_wrong, complaints, complaint_text, Stream, Saying, output, error, saying_of, places, program_says, said_on, said, text_first}
 use Rattle.page.specs.Inner.{complaints_text}
@@ -69,7 +69,7 @@ module _ (s : List ℕ) (from end : ℕ) (at : end ≡ from + length (before 0 (
 -- ---- the facts of a command
 
 module _ (words : List ℕ) where
-  pub no_command : word_count words ≡ 0 → (Taken ≡ command_check words) × (stand_in_lem ≡ command_facts words)
+  pub no_command : word_count words ≡ 0 → (Taken ≡ command_check words) × (stand_in ≡ command_facts words)
   unfolding command_check command_facts
   no_command h = (rw (eq-eqb (word_count words) 0 h), rw (eq-eqb (word_count words) 0 h))
 

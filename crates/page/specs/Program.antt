@@ -9,7 +9,7 @@ use Rattle.page.specs.declared.words.WordsCheck.{WordsCheck}
 use Rattle.page.specs.declared.words.WordsCheck.TheVariants.{Taken, Wrong}
 use Rattle.page.specs.declared.program.Said.{Said}
 use Rattle.page.specs.declared.program.Said.TheVariants.{Output, Error}
-use Rattle.page.specs.Words.{stand_in_lem, no_facts, words_check, facts_beside}
+use Rattle.page.specs.Words.{stand_in, no_facts, words_check, facts_beside}
 use Rattle.page.specs.Answer.{answer_text}
 
 -- ---- the words
@@ -34,7 +34,7 @@ command_check words =
 
 unfoldable pub command_facts : List ℕ → FormatFacts
 command_facts words =
-    pick (eqb (word_count words) 0) stand_in_lem
+    pick (eqb (word_count words) 0) stand_in
     (pick (eqb (word_count words) 5) (facts_beside (word_at 0 words) (word_at 1 words) (word_at 2 words) (word_at 3 words) (word_at 4 words))
     no_facts)
 

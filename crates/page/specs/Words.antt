@@ -10,8 +10,8 @@ use Rattle.page.specs.declared.words.WordsCheck.{WordsCheck}
 use Rattle.page.specs.declared.words.WordsCheck.TheVariants.{Taken, Wrong}
 
 -- Stand-in facts, where no words are given: magic `MAST`, version 0 0 2, hashless mask 2, reserved mask 0xFC, node maximum 2^30 - 1.
-abbrev pub stand_in_lem : FormatFacts
-stand_in_lem =
+abbrev pub stand_in : FormatFacts
+stand_in =
     record {
       magic = 77 ∷ 65 ∷ 83 ∷ 84 ∷ [];
       version = 0 ∷ 0 ∷ 2 ∷ [];

@@ -1,7 +1,7 @@
 // Format facts from five words: magic, version, hashless mask and reserved mask in hexadecimal, and
 // the node maximum in decimal.
 ghost use Rattle.std.specs.Prelude.{◌≡◌};
-ghost use Rattle.page.specs.Words.{stand_in_lem, no_facts, facts_of, words_check, facts_beside};
+ghost use Rattle.page.specs.Words.{stand_in, no_facts, facts_of, words_check, facts_beside};
 
 use layout::facts::FormatFacts;
 use text::digits::{NumberWord, hex_byte, hex_wrong, number_of};
@@ -23,7 +23,7 @@ pub struct FactsRead {
 // The facts that take the place of the true ones, which are not known here: magic `MAST`, version 0 0 2,
 // hashless mask 2, reserved mask 0xFC, node maximum 2^30 - 1.
 pub fn stand_in_facts() -> FormatFacts
-    ensures { result ≡ stand_in_lem }
+    ensures { result ≡ stand_in }
 {
     FormatFacts {
         magic: [77, 65, 83, 84],

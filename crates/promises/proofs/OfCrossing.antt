@@ -11,7 +11,7 @@ use Rattle.crossing.specs.Arrays.{layout_of, bound_of, layout_row, scanned_row, 
 use Rattle.crossing.proofs.Arrays as laws
 use Rattle.crossing.proofs.facts_of.Reads as facts_of
 use Rattle.crossing.proofs.layout_of.Reads as layout_of
-use Rattle.crossing.proofs.layout_row.Reads as Layout-row
+use Rattle.crossing.proofs.layout_row.Reads as layout_row_call
 use Rattle.crossing.proofs.scanned_row.Reads as scanned_row_call
 use Rattle.crossing.proofs.bound_of.Reads as bound_of
 use Rattle.crossing.proofs.bound_row.Reads as bound_row_call
@@ -21,7 +21,7 @@ use Rattle.promises.proofs.Terms.{Answers, answers}
 pub record Crossing : Type 0 where
   pub facts_of_answers : Answers facts_of.Pre facts_of.Post
   pub layout_of_answers : Answers layout_of.Pre layout_of.Post
-  pub layout_row_answers : Answers Layout-row.Pre Layout-row.Post
+  pub layout_row_answers : Answers layout_row_call.Pre layout_row_call.Post
   pub scanned_row_answers : Answers scanned_row_call.Pre scanned_row_call.Post
   pub bound_of_answers : Answers bound_of.Pre bound_of.Post
   pub bound_row_answers : Answers bound_row_call.Pre bound_row_call.Post

@@ -1,7 +1,7 @@
--- The exported functions. Each asks nothing of its caller. What one returns, stores and leaves is told by its outcome (`Crosses`): after a refusal the
--- number and the place are the refusal's and the answer is as it was; after an acceptance the number is 0, the answer is the outcome's, and the
--- place is as it was. Other memory that it is lent is one too (`Leaves`), and as it was where the outcome is refused, but for the walk's key table,
--- which is zeroed. Assumes nothing.
+-- The functions that C has: vekalumist_c exports them as they are. Each asks nothing of its caller. What one returns, stores and leaves is told by its
+-- outcome (`Crosses`): after a refusal the number and the place are the refusal's and the answer is as it was; after an acceptance the number is 0,
+-- the answer is the outcome's, and the place is as it was. Other memory that it is lent is one too (`Leaves`), and as it was where the outcome is
+-- refused, but for the walk's key table, which is zeroed. Assumes nothing.
 use mathlib.Core.Path.{◌≡◌, refl, sym, ap, ◌∙◌}
 use mathlib.Core.Bool.{Bool, true, false}
 use mathlib.Core.List.{List}

@@ -1,6 +1,5 @@
--- The public functions of view. Each asks nothing of its caller, and its promise allows one result. None is lent memory that it may write to. The
--- toolchain makes no `Pre` and `Post` of a contract with a view in it, so of the four functions that take or make one the same is said over their
--- own clauses, in every model and whatever is at exit (`AnswersIn`).
+-- The public functions of view. Each asks nothing of its caller, and its promise allows one result. None is lent memory that it may write to. Of the
+-- four functions that take or make a view the same is said over their own clauses, in every model and whatever is at exit (`AnswersIn`).
 -- Assumes nothing.
 use mathlib.Core.Path.{◌≡◌, sym, ◌∙◌}
 use seplogic.Ra.Ura.{Ura}

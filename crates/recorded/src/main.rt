@@ -1,4 +1,4 @@
-// Holds recorded answers against the exported functions. Standard input is sections: `@`, a title, and
+// Holds recorded answers against the functions that C has. Standard input is sections: `@`, a title, and
 // lines. A line that begins with `=` is the file of the cases after it, as numbers; any other line is a
 // case: the call and the numbers that it is given, the memory that is lent, and the row that is recorded,
 // three groups with `;` between two. A number is in decimal, with a space after it. How many cases of each

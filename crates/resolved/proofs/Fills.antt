@@ -23,7 +23,7 @@ use Rattle.layout.specs.declared.forest.HashSection.{HashSection}
 use Rattle.layout.specs.declared.forest.HashSection.TheVariants.{At, Absent}
 use Rattle.resolved.specs.Nodes.{external_in, node_entry, external_node}
 use Rattle.resolved.specs.Slots.{slot_of, lacks, spent, table_rules, slots_outcome}
-use Rattle.resolved.specs.Digests.{section_of, digest_rules, digest_at, digest_in, digest_by_counting, DigestSaid, word, no_hash, no_element_lem}
+use Rattle.resolved.specs.Digests.{section_of, digest_rules, digest_at, digest_in, digest_by_counting, DigestSaid, word, no_hash, no_element}
 use Rattle.rows.proofs.Pass.{pass_each}
 use Rattle.resolved.proofs.DigestLaws.{counting_digest}
 use Rattle.resolved.proofs.Sections.{row_in_section}
@@ -50,7 +50,7 @@ module _ (f : FormatFacts) (s : List ℕ) (l : ForestLayout) (sections : EndToEn
   unfolding digest_at digest_rules first_met
   row_said i slot section inside fits true e =
       let low : row_over section.0 32 slot ≡ false = le-ltb (2 ^ 64 - 1) (row_at section.0 32 slot + 32) (omega arith) in
-      rw (low, le-ltb (length s) (row_at section.0 32 slot + 32) inside, e) (no_element_lem section refl e)
+      rw (low, le-ltb (length s) (row_at section.0 32 slot + 32) inside, e) (no_element section refl e)
   row_said i slot section inside fits false e =
       let low : row_over section.0 32 slot ≡ false = le-ltb (2 ^ 64 - 1) (row_at section.0 32 slot + 32) (omega arith) in
       rw (low, le-ltb (length s) (row_at section.0 32 slot + 32) inside, e) (word section refl e)

@@ -66,4 +66,4 @@ no_digest why index = record { answer = Refused why index; word = zero_word }
 pub data DigestSaid (s : List ℕ) (i slot : ℕ) (section : HashSection) : Outcome (List ℕ) → Type 0 where
   word : (at : ByteOffset) → section ≡ At at → not_elements (four_at s (row_at at.0 32 slot)) ≡ false → DigestSaid s i slot section (accepted (four_at s (row_at at.0 32 slot)))
   no_hash : section ≡ Absent → DigestSaid s i slot section (refused NO-HASH i)
-  no_element_lem : (at : ByteOffset) → section ≡ At at → not_elements (four_at s (row_at at.0 32 slot)) ≡ true → DigestSaid s i slot section (refused ELEMENT i)
+  no_element : (at : ByteOffset) → section ≡ At at → not_elements (four_at s (row_at at.0 32 slot)) ≡ true → DigestSaid s i slot section (refused ELEMENT i)

@@ -19,6 +19,9 @@ const MAX: usize = 0xFFFF_FFFF_FFFF_FFFF;
 // Rows to a strip of the survey.
 const STRIP: usize = 4096;
 
+// The least upper half of a word with a tag that there is not.
+const NO_TAG: u32 = 0x9000_0000;
+
 // Where a row starts, or that its end is above 2^64 - 1.
 #[derive(Clone, Copy)]
 pub enum RowPlace {
@@ -191,7 +194,7 @@ fn survey_rows(s: &[u8], first: ByteOffset, from: usize, to: usize) -> Survey
         top = larger(top, half);
     }
     if singles % 0x1000_0000 == 0 {
-        if top < 0x9000_0000 {
+        if top < NO_TAG {
             return Survey::Clean(externals);
         }
     }

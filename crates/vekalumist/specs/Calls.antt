@@ -1,4 +1,4 @@
--- What each exported function answers: the outcome of the definitions, over what was given as arrays.
+-- What each function that C has answers: the outcome of the definitions, over what was given as arrays.
 use Rattle.std.specs.Prelude.{ℕ, ◌-◌, ◌^◌, Bool, false, ◌||◌, List, [], ◌∷◌, ltb, get_or}
 use Rattle.wire.specs.Table.{rule, Outcome, first_met, checked, ◌>>=◌}
 use Rattle.wire.specs.Refusals.{PAYLOAD}

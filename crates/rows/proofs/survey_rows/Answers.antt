@@ -38,8 +38,8 @@ loop-i-preserved c =
       ),
     )
 
-pub returns-then-top-lt2415919104 : goal.returns-then-top-lt2415919104
-returns-then-top-lt2415919104 c =
+pub returns-then-top-lt-NO_TAG : goal.returns-then-top-lt-NO_TAG
+returns-then-top-lt-NO_TAG c =
     let l = c.loop-i in
     let e : l.i ≡ c.args.to = omega arith in
-    rw e at (l.invariant.1.1 c.if-singles-eq0.true c.if-top-lt2415919104.true)
+    rw e at (l.invariant.1.1 c.if-singles-eq0.true c.if-top-lt-NO_TAG.true)
