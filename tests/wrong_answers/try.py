@@ -22,15 +22,17 @@ SHAPE = re.compile(
 
 
 def records(text):
-    """Function, what is said of it, and triples of file, old and new text. Lines of one kind in a row are one text."""
+    """Function, what is said of it, triples of file, old and new text, and what steps are called then. Lines of one kind in a row are one text."""
     found, file, last = [], None, None
     for line in text.splitlines():
         kind, _, rest = line.partition(":")
         rest = rest[1:]
         if kind == "wrong":
-            found.append({"function": rest, "says": "", "edits": []})
+            found.append({"function": rest, "says": "", "edits": [], "steps": []})
         elif kind == "says":
             found[-1]["says"] = rest
+        elif kind == "steps":
+            found[-1]["steps"].append(rest.split(" "))
         elif kind == "file":
             file = rest
         elif kind == "old":
@@ -92,6 +94,13 @@ def attempt(root, one):
             if text.count(old) != 1:
                 return f"BAD EDIT: {text.count(old)} times in {file}: {old!r}", ""
             path.write_text(text.replace(old, new))
+        for folder, old, new in one["steps"]:
+            paths = [path for path in sorted((root / folder).glob("*.antt")) if old in path.read_text()]
+            if not paths:
+                return f"BAD EDIT: no proof in {folder} names {old}", ""
+            for path in paths:
+                saved.setdefault(path, path.read_text())
+                path.write_text(path.read_text().replace(old, new))
         return verdict(one["function"], prove(root, one["function"].split("::")[0]))
     finally:
         for path, text in saved.items():
