@@ -8,7 +8,7 @@
 // rooms lent here: this file moves bytes. The status is 0, and 1 where what is said could not be written.
 #![tactic(auto)]
 
-ghost use Rattle.std.specs.Prelude.{◌≡◌, ◌<◌, ◌≤◌, true, false, length, take, Ok, IfOk};
+ghost use Rattle.std.specs.Prelude.{◌≡◌, ℕ, ◌<◌, ◌≤◌, true, false, length, take, Ok, IfOk, OnErr};
 ghost use Rattle.std.specs.Io.KnownBytes.{Consumes, IsAtEnd};
 
 use page::program::{Said, program, words_wrong};
@@ -62,11 +62,12 @@ fn read_words(env: &impl Env, buf: &mut [u8]) -> usize
 }
 
 // Reads the input to its end, or until the room is full, and answers how many bytes these are; or nothing,
-// where it is not wanted. An error is the input's own, and the room may then hold what came before it.
+// where it is not wanted. An error is the input's own: what came before it stands at the room's start.
 fn read_input<R: Read>(input: &mut R, buf: &mut [u8], unwanted: bool) -> io::Result<usize>
     ensures bound { IfOk result (λ n. n ≤ length buf.new) }
     ensures bytes { IfOk result (λ n. Consumes (R.remaining input.old) (R.remaining input.new) (take n buf.new)) }
     ensures end { IfOk result (λ n. unwanted ≡ false → n < length buf.new → IsAtEnd (R.remaining input.new)) }
+    ensures lost { OnErr result ((n : ℕ) × (n ≤ length buf.new) × Consumes (R.remaining input.old) (R.remaining input.new) (take n buf.new)) }
     ensures unread { unwanted ≡ true → (result ≡ Ok 0) × (input.new ≡ input.old) × (buf.new ≡ buf.old) }
 {
     if unwanted {

@@ -8,7 +8,7 @@
 // beyond them does not agree. The program ends with an error where it cannot read or write.
 #![tactic(auto)]
 
-ghost use Rattle.std.specs.Prelude.{◌<◌, length, take, IfOk};
+ghost use Rattle.std.specs.Prelude.{◌<◌, length, take, IfOk, ℕ, ◌≤◌, OnErr};
 ghost use Rattle.std.specs.Io.{ReadsAtMost};
 ghost use Rattle.std.specs.Io.KnownBytes.{Consumes, IsAtEnd};
 
@@ -63,11 +63,12 @@ fn print_all(rt: &impl Print, text: &[u8]) -> io::Result<()> {
 }
 
 // Reads until the buffer is full or the input ends, and answers how many bytes it put at the start of the
-// buffer. An error is the input's own, and the buffer may then hold what came before it.
+// buffer. An error is the input's own: what came before it stands at the buffer's start.
 fn read_full<R: Read>(input: &mut R, buf: &mut [u8]) -> io::Result<usize>
     ensures bound { ReadsAtMost result buf.new }
     ensures bytes { IfOk result (λ n. Consumes (R.remaining input.old) (R.remaining input.new) (take n buf.new)) }
     ensures end { IfOk result (λ n. n < length buf.new → IsAtEnd (R.remaining input.new)) }
+    ensures lost { OnErr result ((n : ℕ) × (n ≤ length buf.new) × Consumes (R.remaining input.old) (R.remaining input.new) (take n buf.new)) }
 {
     let mut done: usize = 0;
     while done < buf.len() {
