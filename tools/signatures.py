@@ -200,9 +200,9 @@ for name in inline:
 
 # ---- the layout: its fields' names, order and units
 
-of_rattle = re.findall(r"pub (\w+): (\w+),", re.search(r"pub struct ForestLayout \{(.*?)\n\}", text("crates/layout/src/forest.rt"), re.S)[1])
+of_rattle = re.findall(r"pub (\w+): ([\w<>]+),", re.search(r"pub struct ForestLayout \{(.*?)\n\}", text("crates/layout/src/forest.rt"), re.S)[1])
 two = [("has_node_hashes", "u64"), ("node_hash_offset", "ByteOffset")]
-of_rattle = [f for own in of_rattle for f in (two if own == ("node_hash_offset", "HashSection") else [own])]
+of_rattle = [f for own in of_rattle for f in (two if own == ("node_hash_offset", "Option<ByteOffset>") else [own])]
 same("veka_layout_t", [name for name, _ in raw_structs.get("veka_layout_t", [])], [name for name, _ in of_rattle])
 same("rust/src/layout.rs: Layout", of_rust.get("Layout"), of_rattle)
 # what the scan gives: the layout, and then one number
@@ -222,7 +222,10 @@ package = [int(n) for n in re.search(r'^version = "(\d+)\.(\d+)\.(\d+)"', text("
 same("VEKA_VERSION", defined.get("VERSION"), version and int(version[1]))
 same("rust/Cargo.toml: version", package[0] * 10000 + package[1] * 100 + package[2], version and int(version[1]))
 
-refusals = {shouted(name): int(number) for name, number in re.findall(r"Refusal::(\w+) => (\d+),", text("crates/wire/src/refusal.rt"))}
+refusals, number = {}, 0
+for name, given in re.findall(r"^    (\w+)(?: = (\d+))?,$", re.search(r"pub enum Refusal \{(.*?)\n\}", text("crates/wire/src/refusal.rt"), re.S)[1], re.M):
+    number = int(given) if given else number + 1
+    refusals[shouted(name)] = number
 for name, number in {"OK": 0, **refusals}.items():
     # the plain name is the library's version
     same(f"the number of {name}", defined.get("FILE_VERSION" if name == "VERSION" else name), number)

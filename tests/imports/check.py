@@ -17,7 +17,7 @@ from pathlib import Path
 ROOT = Path(__file__).resolve().parents[2]
 USE = re.compile(r'^[ \t]*(?:ghost )?use\s+([^;\n{]+?)(?:(?:\.|::)\{([^}]*)\}|\s+as\s+(\S+?))?;?[ \t]*$', re.M)
 WORD = re.compile(r'\[\][^\s(){},;.«»"\[\]`⌜⌝]*|[^\s(){},;.«»"\[\]`⌜⌝]+')
-CALLED = {'Read': {'read', 'read_exact', 'read_to_end'}, 'Write': {'write', 'write_all', 'flush'}}
+CALLED = {'◌>>=◌': {'do'}, 'Read': {'read', 'read_exact', 'read_to_end'}, 'Write': {'write', 'write_all', 'flush'}}
 DECLARED = re.compile(r'^( *)(?:(?:abbrev|unfoldable)\s+)?pub\s+([^\s:]+)\s*:', re.M)
 
 
@@ -94,7 +94,8 @@ def main():
             print(f'{path.relative_to(ROOT)}:{line}: unused: {item or m.group(1).strip()}')
         if fix and drops:
             path.write_text(without(path.read_text(), drops))
-        named.update(WORD.findall(body(bare(path))))
+        # a function's attribute names a law by its whole path
+        named.update(part for word in WORD.findall(body(bare(path))) for part in word.split('::'))
     for path in (ROOT / 'docs').rglob('*.md'):
         named.update(re.findall(r'[^\s`(),;:|]+', path.read_text()))
     for path in files:

@@ -3,7 +3,7 @@
 allows one answer (NAME_answers; or, where no plain result is promised, NAME_asks with NAME_one or NAME_leaves), and for all memory that it is lent to
 write to that what it leaves is one (NAME_leaves..). NAME_crosses says it of an exported function's number, of its answer where it has one, and
 of its place. Main names every page. A static library has no page: its functions promise what a library's of their names do (tools/signatures.py).
-Fails with what is missing.
+Methods count as functions do, and what stands in a module that is not `pub` is not public. Fails with what is missing.
 """
 import re
 import sys
@@ -11,7 +11,7 @@ from pathlib import Path
 
 ROOT = Path(__file__).resolve().parents[2]
 PAGES = ROOT / 'crates/promises/proofs'
-FUNCTION = re.compile(r'^[ \t]*pub fn (\w+)(?:<[^>]*>)?(\(.*?\))[^{]*?(?=\n\s*(?:requires|ensures|\{))(.*?)^\{', re.M | re.S)
+FUNCTION = re.compile(r'^([ \t]*)pub fn (\w+)(?:<[^>]*>)?(\(.*?\))[^{]*?(?=\n\s*(?:requires|ensures|\{))(.*?)^\1\{', re.M | re.S)
 
 
 def main():
@@ -22,23 +22,28 @@ def main():
         title = 'Of' + crate.name.capitalize()
         page = PAGES / (title + '.antt')
         declared = re.findall(r'^  pub (\w+) :', page.read_text(), re.M) if page.exists() else []
-        found = 0
+        inner = set(re.findall(r'^mod (\w+);', (crate / 'src/lib.rt').read_text(), re.M))
+        names = []
         for path in sorted(crate.glob('src/**/*.rt')):
+            if path.relative_to(crate / 'src').parts[0].removesuffix('.rt') in inner:
+                continue
             code = re.sub(r'//[^\n]*', '', path.read_text())
             for m in FUNCTION.finditer(code):
-                found += 1
-                name = m.group(1)
-                if re.search(r'^\s*requires\b', m.group(3), re.M):
-                    wrong.append(f'{crate.name}: {m.group(1)}: has a requires')
-                lent = m.group(2).count('&mut ')
+                name = m.group(2)
+                if name in names:
+                    wrong.append(f'{crate.name}: {name}: is the name of two functions, and has one line')
+                names.append(name)
+                if re.search(r'^\s*requires\b', m.group(4), re.M):
+                    wrong.append(f'{crate.name}: {name}: has a requires')
+                lent = m.group(3).count('&mut ')
                 crosses = f'{name}_crosses' in declared
                 left = sum(d.startswith(f'{name}_leaves') for d in declared) + crosses * min(lent, 2)
                 if f'{name}_answers' not in declared and not crosses and not (f'{name}_asks' in declared and (left or f'{name}_one' in declared)):
                     wrong.append(f'{page.name}: no {name}_answers')
                 if left != lent:
                     wrong.append(f'{page.name}: {name} is lent {lent} to write to, and {left} are said to be one')
-        total += found
-        if found and f'proofs.{title}.' not in main_page:
+        total += len(names)
+        if names and f'proofs.{title}.' not in main_page:
             wrong.append(f'Main.antt: does not name {title}')
     for line in wrong:
         print(line)

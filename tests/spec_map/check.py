@@ -161,11 +161,16 @@ def contracts(text):
 
 
 def public_functions():
+    """Of the modules that are `pub`. A parameter's name hides an import's."""
     for path in sorted(ROOT.glob("crates/*/src/*.rt")):
+        root = path.with_name("lib.rt")
+        if root.exists() and f"\nmod {path.stem};" in root.read_text():
+            continue
         text = path.read_text()
         names, files = imports(text)
         for name, contract in contracts(text):
-            yield path.relative_to(ROOT), name, contract, names, files
+            lent = set(re.findall(r"(\w+): ", contract.partition("->")[0]))
+            yield path.relative_to(ROOT), name, contract, {n: at for n, at in names.items() if n not in lent}, files
 
 
 def stated(path):

@@ -11,6 +11,8 @@ use native.Mathlib.Omega.{arith}
 use borrow.Author.Tests.{le-leb, lt-leb, leb-false, lt-ltb, le-ltb, ltb-false}
 use lib.ListN.{length, get_or, take, drop, set, replicate, length-map}
 use lib.Seq.{drop-cons, set_at, take_at, drop_at}
+use Rattle.std.specs.Prelude.{Option, Some, None, Result, Ok, Err, IfOk, OnOk}
+use Rattle.std.specs.Result.{is_err}
 use Rattle.wire.specs.Table.{Rule, rule, Outcome, refused, accepted, pick, first_met, NoneMet, ◌>>=◌, At}
 use Rattle.wire.specs.Refusals.{SHORT, OVERFLOW, DUPLICATE, ROOM}
 use Rattle.wire.specs.Le.{is_short}
@@ -23,13 +25,15 @@ use Rattle.wire.proofs.Words.{word_whole}
 use Rattle.wire.proofs.Counts.{one_most}
 use Rattle.keys.specs.Sorted.{sorted}
 use Rattle.keys.specs.Keys.{same_key, seen_key, key_order, key_less}
-use Rattle.advice.specs.Walk.{size, next_entry, advice_rules, walk_rules, walk_end, key_offsets, walk_shown, shown_sizes, Walked, map_rules, walk_outcome, key_table}
-use Rattle.keys.specs.Sort.{same_at, has_key, first_repeat, first_duplicate, Ascending}
-use Rattle.advice.specs.Inner.{length_rules, length_outcome, values_rules, values_outcome, length_end_outcome, entry_rules, entry_end_outcome, long_after, entries_outcome, entries_table, unless_repeat, stop_shown, FilledTo}
-use Rattle.keys.specs.declared.sort.Duplicate.{Duplicate}
-use Rattle.keys.specs.declared.sort.Duplicate.TheVariants.{At as Again, Nothing}
-use Rattle.advice.specs.declared.walk.Stop.{Stop}
+use Rattle.advice.specs.Walk.{size, next_entry, advice_rules, walk_rules, walk_end, key_offsets, walk_shown, shown_sizes, Walked, first_entry, map_rules, walk_outcome, key_table}
+use Rattle.keys.specs.Sort.{same_at, has_key, first_repeat, first_duplicate, least_repeat, Ascending}
+use Rattle.advice.specs.Inner.{length_rules, length_outcome, values_rules, values_outcome, entry_rules, entry_end_outcome, long_after, entries_outcome, unless_repeat, FilledTo}
+use Rattle.advice.specs.Shown.{shown_walk}
 use Rattle.advice.specs.declared.walk.Filled.{Filled}
+use Rattle.advice.specs.declared.walk.Walked.{Walked as MapWalk}
+use Rattle.wire.specs.declared.refusal.Refused.{Refused}
+use Rattle.wire.specs.declared.units.ByteOffset.{ByteOffset}
+use Rattle.keys.proofs.Duplicates.{duplicate_found}
 
 -- ---- segments of a table
 
@@ -79,45 +83,23 @@ module _ (s : List ℕ) (at : ℕ) where
   abbrev here : At Count
   here = record { value = counted s at; next = at + (counted s at).len }
 
-  values_split : values_outcome s at ≡ (count_outcome s at >>= length_outcome s at)
+  pub values_split : values_outcome s at ≡ (count_outcome s at >>= length_outcome s at)
   unfolding values_outcome values_rules count_outcome length_outcome
   values_split =
       in_turn (count_rule s at ∷ []) here (length_rules s at) (λ c. record { value = c.value.value; next = c.next }) (length_outcome s at) (λ c. refl)
-
-  pub values_none : (n p : ℕ) → refused n p ≡ count_outcome s at → refused n p ≡ values_outcome s at
-  unfolding ◌>>=◌
-  values_none n p e = rw (values_split, ← e)
-
-  pub values_read : (c : Count) (from : ℕ) → accepted (read c from) ≡ count_outcome s at → length_outcome s at (read c from) ≡ values_outcome s at
-  unfolding ◌>>=◌
-  values_read c from said = rw (values_split, ← said)
 
   -- whether a length is the shortest, and the place after its values
   abbrev after_values : At Count → At ℕ → At Bool
   after_values c v = record { value = c.value.shortest; next = v.next + 8 * v.value }
 
-  abbrev after_length : At Count → Outcome (At Bool)
+  abbrev pub after_length : At Count → Outcome (At Bool)
   after_length c = length_outcome s at c >>= (λ v. accepted (after_values c v))
 
-  end_split : length_end_outcome s at ≡ (count_outcome s at >>= after_length)
-  unfolding length_end_outcome values_rules count_outcome length_outcome
+  end_split : first_met (values_rules s at) (record { value = (counted s at).shortest; next = at + (counted s at).len + 8 * (counted s at).value }) ≡ (count_outcome s at >>= after_length)
+  unfolding values_rules count_outcome length_outcome
   end_split =
       in_turn (count_rule s at ∷ []) here (length_rules s at) (λ c. after_values c (record { value = c.value.value; next = c.next })) after_length
       (λ c. in_the_end (length_rules s at c) (record { value = c.value.value; next = c.next }) (after_values c))
-
-  pub end_none : (n p : ℕ) → refused n p ≡ count_outcome s at → refused n p ≡ length_end_outcome s at
-  unfolding ◌>>=◌
-  end_none n p e = rw (end_split, ← e)
-
-  module _ (c : Count) (from : ℕ) (said : accepted (read c from) ≡ count_outcome s at) where
-    pub end_no_values : (n p : ℕ) → refused n p ≡ length_outcome s at (read c from) → refused n p ≡ length_end_outcome s at
-    unfolding ◌>>=◌
-    end_no_values n p e = rw (end_split, ← said, ← e)
-
-    pub end_whole : (n p : ℕ) → accepted (record { value = n; next = p }) ≡ length_outcome s at (read c from)
-        → accepted (record { value = c.shortest; next = p + 8 * n }) ≡ length_end_outcome s at
-    unfolding ◌>>=◌
-    end_whole n p e = rw (end_split, ← said, ← e)
 
   length_none : NoneMet (length_rules s at here) → length_outcome s at here ≡ accepted (record { value = (counted s at).value; next = at + (counted s at).len })
   unfolding length_outcome
@@ -132,21 +114,12 @@ module _ (s : List ℕ) (at : ℕ) where
 
 -- ---- an entry
 
-module _ (s : List ℕ) (at : ℕ) where
-  entry_split : entry_end_outcome s at ≡ (word_outcome s at >>= (λ w. length_end_outcome s w.next))
-  unfolding entry_end_outcome entry_rules word_outcome length_end_outcome
-  entry_split =
-      in_turn (word_rules s at) (record { value = four_at s at; next = at + 32 }) (λ w. values_rules s w.next)
-      (λ w. record { value = (counted s w.next).shortest; next = w.next + (counted s w.next).len + 8 * (counted s w.next).value })
-      (λ w. length_end_outcome s w.next) (λ w. refl)
-
-  pub entry_no_key : (n p : ℕ) → refused n p ≡ word_outcome s at → refused n p ≡ entry_end_outcome s at
-  unfolding ◌>>=◌
-  entry_no_key n p e = rw (entry_split, ← e)
-
-  pub entry_key : (length : ℕ) → accepted (record { value = four_at s at; next = length }) ≡ word_outcome s at → length_end_outcome s length ≡ entry_end_outcome s at
-  unfolding ◌>>=◌
-  entry_key length said = rw (entry_split, ← said)
+pub entry_split : (s : List ℕ) (at : ℕ) → entry_end_outcome s at ≡ (word_outcome s at >>= (λ w. count_outcome s w.next >>= after_length s w.next))
+unfolding entry_end_outcome entry_rules word_outcome
+entry_split s at =
+    in_turn (word_rules s at) (record { value = four_at s at; next = at + 32 }) (λ w. values_rules s w.next)
+    (λ w. record { value = (counted s w.next).shortest; next = w.next + (counted s w.next).len + 8 * (counted s w.next).value })
+    (λ w. count_outcome s w.next >>= after_length s w.next) (λ w. end_split s w.next)
 
 -- ---- the entries, one after the other
 
@@ -288,13 +261,13 @@ module _ {A : Type 0} (places : ℕ) (s : List ℕ) (m : ℕ) (v : A) where
 
       go : (b : Bool) →
           pick b (refused DUPLICATE at) (unless_repeat (first_repeat s (at ∷ offsets) (key_offsets s (next_entry s at) k)) rest)
-          ≡ unless_repeat (cond b (Again at) (first_repeat s (at ∷ offsets) (key_offsets s (next_entry s at) k))) rest
+          ≡ unless_repeat (cond b (Some at) (first_repeat s (at ∷ offsets) (key_offsets s (next_entry s at) k))) rest
       go true = refl
       go false = refl
 
 -- i entries are whole, and then the table is used up, or the next entry is refused, or there are no more
 module _ (places : ℕ) (s : List ℕ) (at : ℕ) (c : Count) (i : ℕ) (room : i ≤ places) (none : (j : ℕ) → j < i → NoneMet (entry_rules s (walk_end s at j))) where
-  abbrev First : Duplicate
+  abbrev First : Option ℕ
   First = first_duplicate s (key_offsets s at i)
 
   entries_left : (m : ℕ) → i + m ≡ c.value
@@ -359,7 +332,7 @@ enough_room places s at n none =
     let z : length {A = List ℕ} [] ≤ places = omega arith in
     omega (arith, all_room places s at n [] none z)
 
-pub no_duplicate : (places : ℕ) (s : List ℕ) (at n : ℕ) → NoneMet (walk_rules places s at n []) → first_duplicate s (key_offsets s at n) ≡ Nothing
+pub no_duplicate : (places : ℕ) (s : List ℕ) (at n : ℕ) → NoneMet (walk_rules places s at n []) → first_duplicate s (key_offsets s at n) ≡ None
 unfolding walk_rules first_met
 no_duplicate places s at n none =
     let room : n + length {A = ℕ} [] ≤ places = omega (arith, enough_room places s at n none) in
@@ -367,76 +340,57 @@ no_duplicate places s at n none =
     rw add-zero at (after_entries {A = Unit {0}} places s 0 tt n at [] tt room (all_whole places s at n [] none)) in
     go (first_duplicate s (key_offsets s at n)) (sym (none_accepted (walk_rules places s at n []) tt none) ∙ said)
   where
-    go : (d : Duplicate) → accepted (tt {0}) ≡ unless_repeat d (accepted (tt {0})) → d ≡ Nothing
-    go Nothing e = refl
-    go (Again x) e = cc
+    go : (d : Option ℕ) → accepted (tt {0}) ≡ unless_repeat d (accepted (tt {0})) → d ≡ None
+    go None e = refl
+    go (Some x) e = cc
 
 -- one more entry is whole
 pub whole_next : (s : List ℕ) (at i : ℕ) → ((j : ℕ) → j < i → NoneMet (entry_rules s (walk_end s at j))) → NoneMet (entry_rules s (walk_end s at i))
     → (j : ℕ) → j < suc i → NoneMet (entry_rules s (walk_end s at j))
 whole_next s at i none here j h = elim (ℕ_discrete j i) [ yes e ↦ rw e here | no d ↦ none j (omega arith) ]
 
--- ---- the end of the walk, over what `fill` left: duplicates first, then what stopped it
-
-pub table_refused : (s : List ℕ) (at : ℕ) (c : Count) (t₀ : List ℕ) (x p : ℕ) → refused x p ≡ entries_outcome (length t₀) s at c → entries_table s at c t₀ ≡ replicate (length t₀) 0
-unfolding entries_table
-table_refused s at c t₀ x p e = rw (← e)
-
-module _ (s : List ℕ) (at : ℕ) (c : Count) (t₀ t : List ℕ) (r : Filled) (f : FilledTo s at c t₀ t r) where
-  pub filled_front : take r.n t ≡ key_offsets s at r.n
-  filled_front = rw f.table (take_at (key_offsets s at r.n) (drop r.n t₀) r.n (length_offsets s at r.n))
-
-  filled_rest : drop r.n t ≡ drop r.n t₀
-  filled_rest = rw f.table (drop_at (key_offsets s at r.n) (drop r.n t₀) r.n (length_offsets s at r.n))
-
-  pub filled_ascends : Ascending (take r.n t)
-  filled_ascends = rw filled_front (offsets_ascend s at r.n)
-
-  pub filled_long : r.n ≡ length (take r.n t)
-  filled_long = rw filled_front (sym (length_offsets s at r.n))
-
-  module _ (d : Duplicate) (said : d ≡ first_duplicate s (take r.n t)) where
-    told : entries_outcome (length t₀) s at c ≡ unless_repeat d (stop_shown r.n r.stop)
-    told = rw said (rw filled_front f.said)
-
-    pub repeat_told : (x : ℕ) → d ≡ Again x → refused DUPLICATE x ≡ entries_outcome (length t₀) s at c
-    repeat_told x e = sym (rw e at told)
-
-    pub stop_told : (o : Stop) → d ≡ Nothing → r.stop ≡ o → stop_shown r.n o ≡ entries_outcome (length t₀) s at c
-    stop_told o e q = rw (← q) (sym (rw e at told))
-
-    pub table_told : (end long : ℕ) → accepted (record { entries = r.n; end = end; long = long }) ≡ entries_outcome (length t₀) s at c → (u : List ℕ) → u ≡ sorted (key_less s) (take r.n t)
-        → u ++ drop r.n t ≡ entries_table s at c t₀
-    unfolding entries_table
-    table_told end long e u q = rw (← e, q, filled_front, filled_rest)
-
 -- ---- the walk: its count, then its entries
 
 module _ (places : ℕ) (s : List ℕ) (at : ℕ) where
-  abbrev after_count : At Count → Outcome Walked
+  abbrev pub after_count : At Count → Outcome Walked
   after_count c = entries_outcome places s c.next c.value
 
-  walk_split : walk_outcome places s at ≡ (count_outcome s at >>= after_count)
+  pub walk_split : walk_outcome places s at ≡ (count_outcome s at >>= after_count)
   unfolding walk_outcome map_rules count_outcome entries_outcome
   walk_split =
       in_turn (count_rule s at ∷ []) (record { value = counted s at; next = at + (counted s at).len }) (λ c. walk_rules places s c.next c.value.value [])
       (λ c. record { entries = c.value.value; end = walk_end s c.next c.value.value; long = long_after s c.next c.value c.value.value }) after_count (λ c. refl)
 
-  pub no_count : (n p : ℕ) → refused n p ≡ count_outcome s at → refused n p ≡ walk_outcome places s at
-  unfolding ◌>>=◌
-  no_count n p e = rw (walk_split, ← e)
+-- ---- the end of the walk, over what `fill` left: duplicates first, then what stopped it
 
-  pub with_count_lem : (c : Count) (next : ℕ) → accepted (record { value = c; next = next }) ≡ count_outcome s at → entries_outcome places s next c ≡ walk_outcome places s at
-  unfolding ◌>>=◌
-  with_count_lem c next e = rw (walk_split, ← e)
+module _ (s : List ℕ) (next : ℕ) (c : Count) (t₀ t : List ℕ) (r : Filled) (f : FilledTo s next c t₀ t r) where
+  filled_front : take r.n t ≡ key_offsets s next r.n
+  filled_front = rw f.table (take_at (key_offsets s next r.n) (drop r.n t₀) r.n (length_offsets s next r.n))
 
-pub no_count_table : (s : List ℕ) (at : ℕ) (t : List ℕ) (n p : ℕ) → refused n p ≡ count_outcome s at → replicate (length t) 0 ≡ key_table s at t
+  filled_rest : drop r.n t ≡ drop r.n t₀
+  filled_rest = rw f.table (drop_at (key_offsets s next r.n) (drop r.n t₀) r.n (length_offsets s next r.n))
+
+  pub told : (d : Option ℕ) → d ≡ least_repeat s (sorted (key_less s) (take r.n t)) → unless_repeat d (shown_walk r.walked) ≡ entries_outcome (length t₀) s next c
+  told d said =
+      let e : d ≡ first_duplicate s (key_offsets s next r.n) = said ∙ rw filled_front (duplicate_found s (key_offsets s next r.n) (offsets_ascend s next r.n)) in
+      rw e (sym f.said)
+
+  -- and the table, once it is sorted
+  pub table_told : (at : ℕ) → accepted (record { value = c; next = next }) ≡ count_outcome s at → (u : List ℕ) → u ≡ sorted (key_less s) (take r.n t)
+      → shown_walk r.walked ≡ walk_outcome (length t₀) s at → OnOk r.walked (u ++ drop r.n t ≡ key_table s at t₀)
+  unfolding key_table count_outcome
+  table_told at counts u q said = go r.walked said f.all
+    where
+      first : next ≡ first_entry s at
+      first = sym (ap (λ (x : At Count). x.next) (accepted_none (count_rule s at ∷ []) (record { value = counted s at; next = at + (counted s at).len }) (record { value = c; next = next }) (sym counts)).1)
+
+      go : (w : Result MapWalk (Refused ByteOffset)) → shown_walk w ≡ walk_outcome (length t₀) s at → IfOk w (λ x. x.entries ≡ r.n) → OnOk w (u ++ drop r.n t ≡ key_table s at t₀)
+      go (Ok x) e same = rw (← e, q, filled_front, filled_rest, ← first, same)
+      go (Err x) e same = tt
+
+-- the table after a refusal
+pub table_refused : (s : List ℕ) (at : ℕ) (t : List ℕ) (w : Result MapWalk (Refused ByteOffset)) → is_err w ≡ true → shown_walk w ≡ walk_outcome (length t) s at
+    → replicate (length t) 0 ≡ key_table s at t
 unfolding key_table
-no_count_table s at t n p e = rw (← no_count (length t) s at n p e)
-
-pub with_count_table : (s : List ℕ) (at : ℕ) (t : List ℕ) (c : Count) (next : ℕ) → accepted (record { value = c; next = next }) ≡ count_outcome s at → entries_table s next c t ≡ key_table s at t
-unfolding key_table entries_table count_outcome
-with_count_table s at t c next e =
-    let h = accepted_none (count_rule s at ∷ []) (record { value = counted s at; next = at + (counted s at).len }) (record { value = c; next = next }) (sym e) in
-    let k : at + (counted s at).len ≡ next = ap (λ (x : At Count). x.next) h.1 in
-    rw (with_count_lem (length t) s at c next e, k)
+table_refused s at t (Ok w) e said = cc
+table_refused s at t (Err w) e said = rw (← said)

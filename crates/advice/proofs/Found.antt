@@ -5,14 +5,13 @@
 use mathlib.Core.Path.{◌≡◌, sym, ap, ◌∙◌}
 use mathlib.Core.List.{List, []}
 use Prim.Native.Nat.{ℕ, ◌+◌}
-use native.Mathlib.Omega.{arith}
 use lib.ListN.{length}
 use Rattle.wire.specs.Table.{Outcome, accepted, first_met, ◌>>=◌}
 use Rattle.wire.specs.Words.{word_rules}
 use Rattle.wire.proofs.Tables.{accepted_none}
 use Rattle.advice.specs.Inner.{entry_rules, values_rules}
 use Rattle.advice.specs.Walk.{size, values_at, walk_end, Walked, first_entry, walk_outcome, key_table, EntryOf}
-use Rattle.advice.specs.Lookup.{Halved, met, missing, halving, Looked, found, absent, element_rules, found_rules, found_outcome, lookup_outcome}
+use Rattle.advice.specs.Lookup.{Halved, met, missing, halving, Looked, found, element_rules, found_rules, found_outcome, lookup_outcome}
 use Rattle.advice.proofs.Entries.{past_none, all_whole}
 use Rattle.advice.proofs.Halving.{bind_taken, lookup_split}
 use Rattle.advice.proofs.Risen.{rules_unmet, walk_risen, lookup_meets, lookup_present}
@@ -25,9 +24,6 @@ module _ (s : List ℕ) (at : ℕ) (t₀ : List ℕ) (w : Walked) (walked : walk
   abbrev entry_at : ℕ → ℕ
   entry_at i = walk_end s (first_entry s at) i
 
-  never : (m from len c : ℕ) → ◌≡◌ {A = Outcome Looked} (accepted (absent m)) (accepted (found from len c)) → ⊥
-  never m from len c x = let z : ◌≡◌ {A = ℕ} 0 1 = cc in omega arith
-
   pub found_entry : (from len c : ℕ) → answer ≡ accepted (found from len c) → EntryOf s at w.entries key from len
   unfolding found_outcome
   found_entry from len c e =
@@ -35,7 +31,7 @@ module _ (s : List ℕ) (at : ℕ) (t₀ : List ℕ) (w : Walked) (walked : walk
       go b.0 (sym b.1) (sym b.2)
     where
       go : (h : Halved) → halving s (key_table s at t₀) key w.entries 0 w.entries 0 ≡ accepted h → found_outcome s h ≡ accepted (found from len c) → EntryOf s at w.entries key from len
-      go (missing m) q r = absurd (never m from len c r)
+      go (missing m) q r = cc
       go (met place m) q r =
           let p = lookup_meets s at t₀ w walked key place m q in
           let k = (accepted_none (found_rules s place) (found (values_at s place) (size s place).value m) (found from len c) r).1 in

@@ -4,21 +4,22 @@
 use mathlib.Core.Path.{◌≡◌, refl, sym, ap, ◌∙◌}
 use mathlib.Core.Bool.{Bool, true, false}
 use mathlib.Core.List.{List, [], ◌∷◌}
-use Prim.Native.Nat.{ℕ, zero, suc, ◌+◌, ◌-◌, ◌*◌, ◌/◌, ◌%◌, ◌^◌, ◌<◌, ◌≤◌}
+use Prim.Native.Nat.{ℕ, zero, suc, ◌+◌, ◌-◌, ◌*◌, ◌/◌, ◌^◌, ◌<◌, ◌≤◌}
 use native.Mathlib.Decide.{ℕ_discrete}
 use native.Mathlib.Omega.{arith}
 use borrow.Author.Tests.{lt-ltb, le-ltb, ltb-true, ltb-false, ne_eqb, eqb-true, eqb-false}
 use lib.Count.{leading_length}
 use lib.Dec.{ltb, eqb}
 use lib.ListN.{length, get_or, take, drop}
-use lib.Seq.{slice, take-add, drop_at, length-take-le}
-use Rattle.wire.specs.Table.{rule, Outcome, refused, accepted, pick, first_met, checked, ◌>>=◌}
+use lib.Seq.{slice}
+use Rattle.std.proofs.lemmas.List.{drop-take}
+use Rattle.wire.specs.Table.{rule, Outcome, refused, accepted, pick, first_met, checked, ◌>>=◌, At}
 use Rattle.wire.specs.Refusals.{SHORT, ELEMENT, ROOM}
 use Rattle.wire.specs.Le.{is_short, number_at}
 use Rattle.wire.specs.Counts.{counted}
 use Rattle.wire.specs.Words.{is_element, word_at, word_order}
-use Rattle.wire.specs.declared.word.WordOrder.{WordOrder}
-use Rattle.wire.specs.declared.word.WordOrder.TheVariants.{Below, Same, Above}
+use Rattle.std.specs.declared.cmp.Ordering.{Ordering}
+use Rattle.std.specs.declared.cmp.Ordering.TheVariants.{Less, Equal, Greater}
 use Rattle.wire.proofs.Stages.{in_turn, in_the_end, both_taken}
 use Rattle.wire.proofs.Tables.{accepted_none}
 use Rattle.wire.proofs.Numbers.{all_there}
@@ -26,14 +27,9 @@ use Rattle.wire.proofs.Words.{four_at_lem, word_whole, first_below, first_above}
 use Rattle.advice.specs.Walk.{size, values_at}
 use Rattle.advice.specs.Lookup.{Halved, met, missing, by_order, halving, Looked, found, absent, element_rules, found_rules, found_outcome, lookup_outcome, bit_length}
 use Rattle.advice.specs.declared.lookup.Range.{Range}
-use Rattle.advice.specs.declared.lookup.Narrowed.TheVariants.{To}
-use Rattle.advice.specs.Inner.{values_rules, values_outcome, left_outcome, Within, turned, Narrows, elements_outcome}
-use Rattle.keys.proofs.Keys.{never}
+use Rattle.advice.specs.Inner.{values_rules, values_outcome, found_values_outcome, left_outcome, turned, elements_outcome}
 
 -- ---- the first elements of a key and of the one at a place decide where they differ
-
-below_unequal : (a b : ℕ) → b ≤ a → (a ≡ b → ⊥) → b < a
-below_unequal a b h d = elim (ℕ_discrete a b) [ yes e ↦ absurd (d e) | no k ↦ omega arith ]
 
 module _ (s : List ℕ) (at : ℕ) (whole : at + 32 ≤ length s) where
   abbrev others : List ℕ
@@ -42,13 +38,14 @@ module _ (s : List ℕ) (at : ℕ) (whole : at + 32 ≤ length s) where
   word_first : word_at s at ≡ number_at 8 s at ∷ others
   word_first = word_whole s at (le-ltb (length s) (at + 32) whole) ∙ four_at_lem s at whole
 
-  first_decides_below : (key : List ℕ) → 0 < length key → get_or key 0 0 < number_at 8 s at → Below ≡ word_order key (word_at s at)
-  first_decides_below [] h l = absurd (omega arith)
-  first_decides_below (x ∷ rest) h l = rw word_first (sym (first_below x (number_at 8 s at) rest others l))
+  first_decides_below : (key : List ℕ) → get_or key 0 0 < number_at 8 s at → Less ≡ word_order key (word_at s at)
+  unfolding word_order
+  first_decides_below [] l = rw word_first
+  first_decides_below (x ∷ rest) l = rw word_first (sym (first_below x (number_at 8 s at) rest others l))
 
-  first_decides_above : (key : List ℕ) → 0 < length key → number_at 8 s at < get_or key 0 0 → Above ≡ word_order key (word_at s at)
-  first_decides_above [] h l = absurd (omega arith)
-  first_decides_above (x ∷ rest) h l = rw word_first (sym (first_above x (number_at 8 s at) rest others l))
+  first_decides_above : (key : List ℕ) → number_at 8 s at < get_or key 0 0 → Greater ≡ word_order key (word_at s at)
+  first_decides_above [] l = absurd (omega arith)
+  first_decides_above (x ∷ rest) l = rw word_first (sym (first_above x (number_at 8 s at) rest others l))
 
 -- ---- a turn of the halving
 
@@ -92,47 +89,22 @@ module _ (s t key : List ℕ) where
     halved_short e = rw (one_try, nonzero, e)
 
     module _ (whole : is_short s (middle low size) 32 ≡ false) where
-      pub halved_same : word_order key (word_at s (middle low size)) ≡ Same → accepted (met (middle low size) (c + 1)) ≡ halving s t key size low size c
+      pub halved_same : word_order key (word_at s (middle low size)) ≡ Equal → accepted (met (middle low size) (c + 1)) ≡ halving s t key size low size c
       unfolding halving
       halved_same e = rw (one_try, nonzero, whole, e)
 
-      pub halved_below : word_order key (word_at s (middle low size)) ≡ Below → halving s t key (size / 2) low (size / 2) (c + 1) ≡ halving s t key size low size c
+      pub halved_below : word_order key (word_at s (middle low size)) ≡ Less → halving s t key (size / 2) low (size / 2) (c + 1) ≡ halving s t key size low size c
       unfolding halving
       halved_below e = rw (one_try, nonzero, whole, e) (enough_tries (size / 2) (size - 1) low (size / 2) (c + 1) (omega arith) (omega arith))
 
-      pub halved_above : word_order key (word_at s (middle low size)) ≡ Above
+      pub halved_above : word_order key (word_at s (middle low size)) ≡ Greater
           → halving s t key (size - size / 2 - 1) (low + size / 2 + 1) (size - size / 2 - 1) (c + 1) ≡ halving s t key size low size c
       unfolding halving
       halved_above e = rw (one_try, nonzero, whole, e) (enough_tries (size - size / 2 - 1) (size - 1) (low + size / 2 + 1) (size - size / 2 - 1) (c + 1) (omega arith) (omega arith))
 
 -- ---- turns by the first elements alone
 
-pub select_most : (b : Bool) (x m : ℕ) → x ≡ pick b 0 m → x ≤ m
-select_most true x m e = omega arith
-select_most false x m e = omega arith
-
-module _ (r : Range) (some : 0 < r.size) where
-  -- one turn, as the code reckons it
-  pub turn_reckoned : (b : Bool) (x y : ℕ) → x ≡ pick b 0 (r.size / 2 + 1) → y ≡ pick b 0 (1 - r.size % 2)
-      → record { low = r.low + x; size = r.size / 2 - y; compared = r.compared + 1 } ≡ turned b r
-  turn_reckoned true x y e f =
-      let low : r.low + x ≡ r.low = omega arith in
-      let size : r.size / 2 - y ≡ r.size / 2 = omega arith in
-      rw (low, size)
-  turn_reckoned false x y e f =
-      let low : r.low + x ≡ r.low + r.size / 2 + 1 = omega arith in
-      let size : r.size / 2 - y ≡ r.size - r.size / 2 - 1 = omega arith in
-      rw (low, size)
-
-  turn_smaller : (b : Bool) → (turned b r).size < r.size
-  turn_smaller true = omega arith
-  turn_smaller false = omega arith
-
-  turn_within : (b : Bool) (n : ℕ) → Within n r → Within n (turned b r)
-  turn_within true n h = (omega (arith, h.0), omega (arith, h.1))
-  turn_within false n h = (omega (arith, h.0), omega (arith, h.1))
-
-module _ (s t key : List ℕ) (some : 0 < length key) (r : Range) (left : 0 < r.size) where
+module _ (s t key : List ℕ) (r : Range) (some : 0 < r.size) where
   abbrev first : ℕ
   first = get_or key 0 0
 
@@ -142,42 +114,38 @@ module _ (s t key : List ℕ) (some : 0 < length key) (r : Range) (left : 0 < r.
   turn_told : is_short s at 32 ≡ false → (b : Bool) → ltb first (number_at 8 s at) ≡ b → (first ≡ number_at 8 s at → ⊥) → left_outcome s t key (turned b r) ≡ left_outcome s t key r
   turn_told w true e d =
       let l : first < number_at 8 s at = ltb-true first (number_at 8 s at) e in
-      halved_below s t key r.low r.size r.compared left w (sym (first_decides_below s at (all_there 32 s at w) key some l))
+      halved_below s t key r.low r.size r.compared some w (sym (first_decides_below s at (all_there 32 s at w) key l))
   turn_told w false e d =
-      let l : number_at 8 s at < first = below_unequal first (number_at 8 s at) (ltb-false first (number_at 8 s at) e) d in
-      halved_above s t key r.low r.size r.compared left w (sym (first_decides_above s at (all_there 32 s at w) key some l))
+      let l : number_at 8 s at < first = omega (arith, ltb-false first (number_at 8 s at) e, d) in
+      halved_above s t key r.low r.size r.compared some w (sym (first_decides_above s at (all_there 32 s at w) key l))
 
-  pub turn_narrows : is_short s at 32 ≡ false → (f : ℕ) → f ≡ number_at 8 s at → (first ≡ f → ⊥) → (q : Range) → q ≡ turned (ltb first f) r → Narrows s t key r (To q)
-  turn_narrows w f e d q k =
-      let law : left_outcome s t key (turned (ltb first f) r) ≡ left_outcome s t key r = turn_told w (ltb first f) (ap (ltb first) (sym e)) (λ h. d (h ∙ sym e)) in
-      rw k (turn_smaller r left (ltb first f), turn_within r left (ltb first f), law)
+  -- of the range that is left the same is said
+  pub turn_same : (f : ℕ) (q : Range) → q ≡ turned (ltb first f) r → is_short s at 32 ≡ false → f ≡ number_at 8 s at → (first ≡ f → ⊥) → left_outcome s t key q ≡ left_outcome s t key r
+  turn_same f q is w e d = rw is (turn_told w (ltb first f) (ap (ltb first) (sym e)) (λ h. d (h ∙ sym e)))
 
 -- ---- what an accepted halving ends with
-
-pub refused_never : {A : Type 0} {P : Type 0} (n p : ℕ) (v : A) → refused n p ≡ accepted v → P
-refused_never n p v e = never (cc)
 
 -- By cases of the tests of one turn, of anything that is told of an accepted end: none left, an equal key, or one of the halves.
 module _ (s t key : List ℕ) (P : Halved → Type 0) (k low size c : ℕ) (h : Halved) where
   pub turn_cases : halving s t key (suc k) low size c ≡ accepted h
       → (size ≡ 0 → missing c ≡ h → P h)
-      → ((size ≡ 0 → ⊥) → is_short s (middle s t key low size) 32 ≡ false → word_order key (word_at s (middle s t key low size)) ≡ Same → met (middle s t key low size) (c + 1) ≡ h → P h)
-      → ((size ≡ 0 → ⊥) → word_order key (word_at s (middle s t key low size)) ≡ Below → halving s t key k low (size / 2) (c + 1) ≡ accepted h → P h)
-      → ((size ≡ 0 → ⊥) → word_order key (word_at s (middle s t key low size)) ≡ Above
+      → ((size ≡ 0 → ⊥) → is_short s (middle s t key low size) 32 ≡ false → word_order key (word_at s (middle s t key low size)) ≡ Equal → met (middle s t key low size) (c + 1) ≡ h → P h)
+      → ((size ≡ 0 → ⊥) → word_order key (word_at s (middle s t key low size)) ≡ Less → halving s t key k low (size / 2) (c + 1) ≡ accepted h → P h)
+      → ((size ≡ 0 → ⊥) → word_order key (word_at s (middle s t key low size)) ≡ Greater
       → halving s t key k (low + size / 2 + 1) (size - size / 2 - 1) (c + 1) ≡ accepted h → P h)
       → P h
   unfolding halving
   turn_cases e none same below above = go (eqb size 0) refl (is_short s (middle s t key low size) 32) refl (word_order key (word_at s (middle s t key low size))) refl e
     where
-      go : (z : Bool) → eqb size 0 ≡ z → (b : Bool) → is_short s (middle s t key low size) 32 ≡ b → (o : WordOrder) → word_order key (word_at s (middle s t key low size)) ≡ o
+      go : (z : Bool) → eqb size 0 ≡ z → (b : Bool) → is_short s (middle s t key low size) 32 ≡ b → (o : Ordering) → word_order key (word_at s (middle s t key low size)) ≡ o
           → pick z (accepted (missing c)) (pick b (refused SHORT (middle s t key low size))
           (by_order o (halving s t key k low (size / 2) (c + 1)) (accepted (met (middle s t key low size) (c + 1))) (halving s t key k (low + size / 2 + 1) (size - size / 2 - 1) (c + 1))))
           ≡ accepted h → P h
       go true ez b eb o eo e = none (eqb-true size 0 ez) (cc)
-      go false ez true eb o eo e = refused_never _ _ h e
-      go false ez false eb Same eo e = same (eqb-false size 0 ez) eb eo (cc)
-      go false ez false eb Below eo e = below (eqb-false size 0 ez) eo e
-      go false ez false eb Above eo e = above (eqb-false size 0 ez) eo e
+      go false ez true eb o eo e = cc
+      go false ez false eb Equal eo e = same (eqb-false size 0 ez) eb eo (cc)
+      go false ez false eb Less eo e = below (eqb-false size 0 ez) eo e
+      go false ez false eb Greater eo e = above (eqb-false size 0 ez) eo e
 
 -- ---- the number of keys compared
 
@@ -217,10 +185,10 @@ module _ (s t key : List ℕ) (h : Halved) where
 module _ (s t key : List ℕ) (at n : ℕ) where
   pub met_whole : (k low size c : ℕ) → halving s t key k low size c ≡ accepted (met at n) → is_short s at 32 ≡ false
   unfolding halving
-  met_whole zero low size c e = never (cc)
+  met_whole zero low size c e = cc
   met_whole (suc k) low size c e =
       turn_cases s t key (λ h. is_short s at 32 ≡ false) k low size c (met at n) e
-      (λ z q. never (cc))
+      (λ z q. cc)
       (λ z w o q. let a : middle s t key low size ≡ at = cc in rw a at w)
       (λ z o e. met_whole k low (size / 2) (c + 1) e)
       (λ z o e. met_whole k (low + size / 2 + 1) (size - size / 2 - 1) (c + 1) e)
@@ -246,45 +214,29 @@ module _ (s : List ℕ) (at : ℕ) where
 
 -- ---- the stages
 
-module _ (s : List ℕ) (at c : ℕ) where
-  found_split : found_outcome s (met at c) ≡ (values_outcome s (at + 32) >>= (λ v. elements_outcome s v.next v.value >>= (λ _. accepted (found v.next v.value c))))
-  unfolding found_outcome found_rules values_outcome values_rules
-  found_split =
+module _ (s : List ℕ) (at : ℕ) where
+  abbrev pub after_values : At ℕ → Outcome (At ℕ)
+  after_values v = elements_outcome s v.next v.value >>= (λ _. accepted v)
+
+  pub found_values_split : found_values_outcome s at ≡ (values_outcome s (at + 32) >>= after_values)
+  unfolding found_values_outcome found_rules values_outcome values_rules
+  found_values_split =
       in_turn (values_rules s (at + 32)) (record { value = (counted s (at + 32)).value; next = at + 32 + (counted s (at + 32)).len })
-      (λ v. element_rules s v.next v.value) (λ v. found v.next v.value c)
-      (λ v. elements_outcome s v.next v.value >>= (λ _. accepted (found v.next v.value c)))
-      (λ v. in_the_end (element_rules s v.next v.value) tt (λ _. found v.next v.value c))
+      (λ v. element_rules s v.next v.value) (λ v. v) after_values
+      (λ v. in_the_end (element_rules s v.next v.value) tt (λ _. v))
 
-  pub found_no_values : (n p : ℕ) → refused n p ≡ values_outcome s (at + 32) → refused n p ≡ found_outcome s (met at c)
-  unfolding ◌>>=◌
-  found_no_values n p e = rw (found_split, ← e)
-
-  module _ (len from : ℕ) (said : accepted (record { value = len; next = from }) ≡ values_outcome s (at + 32)) where
-    pub found_no_element : (n p : ℕ) → refused n p ≡ elements_outcome s from len → refused n p ≡ found_outcome s (met at c)
-    unfolding ◌>>=◌
-    found_no_element n p e = rw (found_split, ← said, ← e)
-
-    pub found_whole : accepted tt ≡ elements_outcome s from len → accepted (found from len c) ≡ found_outcome s (met at c)
-    unfolding ◌>>=◌
-    found_whole e = rw (found_split, ← said, ← e)
+  pub found_split : (c : ℕ) → found_outcome s (met at c) ≡ (found_values_outcome s at >>= (λ v. accepted (found v.next v.value c)))
+  unfolding found_outcome found_values_outcome
+  found_split c = in_the_end (found_rules s at) (record { value = (size s at).value; next = values_at s at }) (λ (v : At ℕ). found v.next v.value c)
 
 module _ (s t : List ℕ) (n : ℕ) (key : List ℕ) where
   pub lookup_room : length t < n → refused ROOM n ≡ lookup_outcome s t n key
   unfolding lookup_outcome ◌>>=◌ first_met
   lookup_room h = rw (lt-ltb _ _ h)
 
-  module _ (room : n ≤ length t) where
-    pub lookup_split : lookup_outcome s t n key ≡ (halving s t key n 0 n 0 >>= found_outcome s)
-    unfolding lookup_outcome ◌>>=◌ first_met
-    lookup_split = rw (le-ltb _ _ room)
-
-    pub lookup_short : (x p : ℕ) → refused x p ≡ halving s t key n 0 n 0 → refused x p ≡ lookup_outcome s t n key
-    unfolding ◌>>=◌
-    lookup_short x p e = rw (lookup_split, ← e)
-
-    pub lookup_ended : (h : Halved) → accepted h ≡ halving s t key n 0 n 0 → found_outcome s h ≡ lookup_outcome s t n key
-    unfolding ◌>>=◌
-    lookup_ended h e = rw (lookup_split, ← e)
+  pub lookup_split : n ≤ length t → lookup_outcome s t n key ≡ (halving s t key n 0 n 0 >>= found_outcome s)
+  unfolding lookup_outcome ◌>>=◌ first_met
+  lookup_split room = rw (le-ltb _ _ room)
 
 -- ---- what is found is in the file
 
@@ -293,7 +245,7 @@ bind_taken m k v e = let t = both_taken m k v (sym e) in (t.0, sym t.1, sym t.2)
 
 found_rules_lem : (s : List ℕ) (h : Halved) (from len c : ℕ) → accepted (found from len c) ≡ found_outcome s h → from + 8 * len ≤ length s
 unfolding found_outcome found_rules
-found_rules_lem s (missing m) from len c e = never (cc)
+found_rules_lem s (missing m) from len c e = cc
 found_rules_lem s (met at m) from len c e =
     let k = accepted_none (found_rules s at) (found (values_at s at) (size s at).value m) (found from len c) (sym e) in
     let q = k.1 in
@@ -310,10 +262,8 @@ found_inside s t n key from len c e =
     found_rules_lem s b.0 from len c b.2
 
 -- a part of the file, as the code cuts it
-pub part_at : (s : List ℕ) (from m : ℕ) → from ≤ length s → take (from + m - from) (drop from s) ≡ slice from (from + m) s
-part_at s from m h =
-    let e : from + m - from ≡ m = omega arith in
-    rw (e, take-add from m s) (sym (drop_at (take from s) (take m (drop from s)) from (length-take-le from s h)))
+pub part_at : (s : List ℕ) (from m : ℕ) → take (from + m - from) (drop from s) ≡ slice from (from + m) s
+part_at s from m = let e : from + m - from ≡ m = omega arith in rw e (sym (drop-take from m s))
 
 -- ---- the number that the lookup reports
 

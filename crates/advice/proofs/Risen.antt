@@ -4,7 +4,7 @@
 --     lookup_present        the key of an entry is met at that entry
 -- Assumes nothing.
 use mathlib.Core.Path.{◌≡◌, refl, sym, ap, ◌∙◌}
-use mathlib.Core.Bool.{Bool, true, false, cond, ◌||◌}
+use mathlib.Core.Bool.{Bool, true, false, cond}
 use mathlib.Core.List.{List, [], ◌∷◌, ◌++◌}
 use mathlib.Core.Logic.{inl, inr, ⊎_elim, ◌↔◌}
 use Prim.Native.Nat.{ℕ, zero, suc, ◌+◌, ◌-◌, ◌/◌, ◌<◌, ◌≤◌}
@@ -16,44 +16,45 @@ use lib.ListN.{length, get_or, drop, length-append, length-drop, get_or-append}
 use Rattle.wire.specs.Table.{Outcome, refused, accepted, NoneMet, ◌>>=◌}
 use Rattle.wire.specs.Le.{is_short}
 use Rattle.wire.specs.Words.{four_at, word_at, word_order}
-use Rattle.wire.specs.declared.word.WordOrder.{WordOrder}
-use Rattle.wire.specs.declared.word.WordOrder.TheVariants.{Below, Same, Above}
+use Rattle.std.specs.declared.cmp.Ordering.{Ordering}
+use Rattle.std.specs.declared.cmp.Ordering.TheVariants.{Less, Equal, Greater}
 use Rattle.wire.proofs.Tables.{accepted_none}
 use Rattle.wire.proofs.Words.{word_whole, order_above, order_same}
+use Rattle.std.proofs.lemmas.Bool.{or_parts}
 use Rattle.keys.specs.Sorted.{sorted}
-use Rattle.keys.specs.Keys.{is_same, same_key, seen_key, key_less}
+use Rattle.std.specs.Ordering.{is_eq}
+use Rattle.keys.specs.Keys.{same_key, seen_key, key_less}
 use Rattle.keys.specs.Sort.{count, stall, same_at, earlier, least_repeat, Ascending, first_duplicate}
 use Rattle.advice.specs.Walk.{size, values_at, next_entry, walk_rules, walk_end, key_offsets, walk_shown, shown_keys, Walked, walked, entry_count, first_entry, map_rules, walk_outcome, key_table, Risen}
 use Rattle.advice.specs.Lookup.{Halved, met, missing, by_order, halving, found, absent, found_rules, found_outcome, lookup_outcome}
-use Rattle.keys.specs.declared.sort.Duplicate.{Duplicate}
-use Rattle.keys.specs.declared.sort.Duplicate.TheVariants.{At, Nothing}
+use Rattle.std.specs.Prelude.{Option, Some, None}
 use Rattle.keys.proofs.Sorted.{Rising, rising_place, in_cons, least_in, least_all, one_same, count_sorted, length-sorted, rising_sorted}
-use Rattle.keys.proofs.Keys.{Lt, Le, never, false_true, lt_irreflexive, lt_le, le_lt, le_key, same_in, stall_no, stall_yes, key_law}
+use Rattle.keys.proofs.Keys.{Lt, Le, lt_irreflexive, lt_le, le_lt, le_key, same_in, stall_no, stall_yes, key_law}
 use Rattle.keys.proofs.Duplicates.{duplicate_found}
 use Rattle.advice.proofs.Entries.{length_offsets, offset_at_lem, offsets_ascend, entry_whole_key, all_whole, enough_room, no_duplicate}
-use Rattle.advice.proofs.Halving.{middle, refused_never, turn_cases, lookup_split, bind_taken}
+use Rattle.advice.proofs.Halving.{middle, turn_cases, lookup_split, bind_taken}
 
 -- ---- a sorted table with no duplicate: its keys rise, each below the next
 
-earlier_some : (d : Duplicate) (b : ℕ) → earlier d b ≡ Nothing → ⊥
-earlier_some Nothing b e = never (cc)
-earlier_some (At y) b e = go (ltb b y) e
+earlier_some : (d : Option ℕ) (b : ℕ) → earlier d b ≡ None → ⊥
+earlier_some None b e = cc
+earlier_some (Some y) b e = go (ltb b y) e
   where
-    go : (t : Bool) → cond t (At b) (At y) ≡ Nothing → ⊥
-    go true e = never (cc)
-    go false e = never (cc)
+    go : (t : Bool) → cond t (Some b) (Some y) ≡ None → ⊥
+    go true e = cc
+    go false e = cc
 
-none_rises : (s l : List ℕ) → Rising (key_less s) l → least_repeat s l ≡ Nothing → Rising (stall s) l
+none_rises : (s l : List ℕ) → Rising (key_less s) l → least_repeat s l ≡ None → Rising (stall s) l
 unfolding least_repeat
 none_rises s [] r n = tt
 none_rises s (a ∷ []) r n = (tt, tt)
 none_rises s (a ∷ (b ∷ l)) r n = go (same_at s a b) refl n (none_rises s (b ∷ l) r.1)
   where
-    go : (t : Bool) → same_at s a b ≡ t → cond t (earlier (least_repeat s (b ∷ l)) b) (least_repeat s (b ∷ l)) ≡ Nothing →
-        (least_repeat s (b ∷ l) ≡ Nothing → Rising (stall s) (b ∷ l)) → Rising (stall s) (a ∷ b ∷ l)
+    go : (t : Bool) → same_at s a b ≡ t → cond t (earlier (least_repeat s (b ∷ l)) b) (least_repeat s (b ∷ l)) ≡ None →
+        (least_repeat s (b ∷ l) ≡ None → Rising (stall s) (b ∷ l)) → Rising (stall s) (a ∷ b ∷ l)
     go true e n f = absurd (earlier_some (least_repeat s (b ∷ l)) b n)
     go false e n f =
-        let ab : Lt (word_at s a) (word_at s b) = ⊎_elim (λ h. h) (λ q. never (false_true (sym (same_in s a b q) ∙ e))) (le_key s a b r.0.0) in
+        let ab : Lt (word_at s a) (word_at s b) = ⊎_elim (λ h. h) (λ q. let same = same_in s a b q in cc) (le_key s a b r.0.0) in
         let w = f n in (
           least_all (stall s) a (b ∷ l)
               (λ y h. stall_yes s a y
@@ -61,7 +62,7 @@ none_rises s (a ∷ (b ∷ l)) r n = go (same_at s a b) refl n (none_rises s (b 
           w,
         )
 
-keys_rise : (s l : List ℕ) → Ascending l → first_duplicate s l ≡ Nothing → (i j : ℕ) → i < j → j < length l →
+keys_rise : (s l : List ℕ) → Ascending l → first_duplicate s l ≡ None → (i j : ℕ) → i < j → j < length l →
     Lt (word_at s (get_or (sorted (key_less s) l) i 0)) (word_at s (get_or (sorted (key_less s) l) j 0))
 keys_rise s l h e i j a b =
     let t : List ℕ = sorted (key_less s) l in
@@ -94,10 +95,10 @@ module _ (s t key : List ℕ) (n : ℕ) (r : Risen s t n) where
   -- no compared key is refused
   pub none_short : (k low size c x p : ℕ) → low + size ≤ n → halving s t key k low size c ≡ refused x p → ⊥
   unfolding halving
-  none_short zero low size c x p h e = refused_never x p (missing c) (sym e)
+  none_short zero low size c x p h e = cc
   none_short (suc k) low size c x p h e =
       elim (ℕ_discrete size 0) [
-        | yes z ↦ refused_never x p (missing c) (sym (rw (eq-eqb size 0 z) at e))
+        | yes z ↦ let f = rw (eq-eqb size 0 z) at e in cc
         | no z ↦
             go (λ f. none_short k low (size / 2) (c + 1) x p (omega arith) f)
             (λ f. none_short k (low + size / 2 + 1) (size - size / 2 - 1) (c + 1) x p (omega arith) f)
@@ -106,11 +107,11 @@ module _ (s t key : List ℕ) (n : ℕ) (r : Risen s t n) where
       ]
     where
       go : (halving s t key k low (size / 2) (c + 1) ≡ refused x p → ⊥) → (halving s t key k (low + size / 2 + 1) (size - size / 2 - 1) (c + 1) ≡ refused x p → ⊥)
-          → (o : WordOrder) → by_order o (halving s t key k low (size / 2) (c + 1)) (accepted (met (middle s t key low size) (c + 1)))
+          → (o : Ordering) → by_order o (halving s t key k low (size / 2) (c + 1)) (accepted (met (middle s t key low size) (c + 1)))
           (halving s t key k (low + size / 2 + 1) (size - size / 2 - 1) (c + 1)) ≡ refused x p → ⊥
-      go below above Below e = below e
-      go below above Same e = refused_never x p (met (middle s t key low size) (c + 1)) (sym e)
-      go below above Above e = above e
+      go below above Less e = below e
+      go below above Equal e = cc
+      go below above Greater e = above e
 
   rise_le : (i j : ℕ) → i ≤ j → j < n → Le (word_at s (get_or t i 0)) (word_at s (get_or t j 0))
   rise_le i j h b = elim (ℕ_discrete i j) [ yes e ↦ rw e (inr refl) | no d ↦ inl (r.rise i j (omega arith) b) ]
@@ -122,7 +123,7 @@ module _ (s t key : List ℕ) (n : ℕ) (r : Risen s t n) where
   missing_none (suc k) low size c m g h e i a b q =
       turn_cases s t key (λ h. ⊥) k low size c (missing m) e
       (λ z f. omega arith)
-      (λ z w o f. never (cc))
+      (λ z w o f. cc)
       (λ z o f.
       elim (dec_lt i (low + size / 2)) [
         | yes l ↦ missing_none k low (size / 2) (c + 1) m (omega arith) (omega arith) f i a l q
@@ -139,10 +140,10 @@ module _ (s t key : List ℕ) (n : ℕ) (r : Risen s t n) where
   -- where it ends at a key, it is equal, and one of the table's
   pub met_there : (k low size c at m : ℕ) → low + size ≤ n → halving s t key k low size c ≡ accepted (met at m) → (i : ℕ) × (i < n) × (get_or t i 0 ≡ at) × (word_at s at ≡ key)
   unfolding halving
-  met_there zero low size c at m h e = never (cc)
+  met_there zero low size c at m h e = cc
   met_there (suc k) low size c at m h e =
       turn_cases s t key (λ h. (i : ℕ) × (i < n) × (get_or t i 0 ≡ at) × (word_at s at ≡ key)) k low size c (met at m) e
-      (λ z f. never (cc))
+      (λ z f. cc)
       (λ z w o f.
       let a : middle s t key low size ≡ at = cc in
       (low + size / 2, omega arith, a, rw a at (sym ((order_same key (word_at s (middle s t key low size))).0 o))))
@@ -150,10 +151,6 @@ module _ (s t key : List ℕ) (n : ℕ) (r : Risen s t n) where
       (λ z o f. met_there k (low + size / 2 + 1) (size - size / 2 - 1) (c + 1) at m (omega arith) f)
 
 -- ---- the keys of the map's entries
-
-or_false : (a b : Bool) → (a || b) ≡ false → (a ≡ false) × (b ≡ false)
-or_false true b e = (cc, cc)
-or_false false b e = (refl, e)
 
 key_same : (a b : List ℕ) → a ≡ b → same_key a b ≡ true
 unfolding same_key
@@ -163,19 +160,21 @@ key_other : (a b : List ℕ) → (a ≡ b → ⊥) → same_key a b ≡ false
 unfolding same_key
 key_other a b d = go (word_order a b) refl
   where
-    go : (o : WordOrder) → word_order a b ≡ o → is_same o ≡ false
-    go Below e = refl
-    go Same e = absurd (d ((order_same a b).0 e))
-    go Above e = refl
+    go : (o : Ordering) → word_order a b ≡ o → is_eq o ≡ false
+    go Less e = refl
+    go Equal e = absurd (d ((order_same a b).0 e))
+    go Greater e = refl
 
 module _ (s key : List ℕ) where
   -- no entry has the key, by the list and by place
   lacks_out : (at n : ℕ) → seen_key (shown_keys s at n) key ≡ false → (i : ℕ) → i < n → four_at s (walk_end s at i) ≡ key → ⊥
   unfolding walk_shown walk_end seen_key
   lacks_out at zero e i h q = omega arith
-  lacks_out at (suc n) e zero h q = never (false_true (sym (key_same (four_at s at) key q) ∙ (or_false (same_key (four_at s at) key) (seen_key (shown_keys s (next_entry s at) n) key) e).0))
+  lacks_out at (suc n) e zero h q =
+      let same = key_same (four_at s at) key q in
+      let other = (or_parts (same_key (four_at s at) key) (seen_key (shown_keys s (next_entry s at) n) key) e).0 in cc
   lacks_out at (suc n) e (suc i) h q =
-      lacks_out (next_entry s at) n (or_false (same_key (four_at s at) key) (seen_key (shown_keys s (next_entry s at) n) key) e).1 i (omega arith) q
+      lacks_out (next_entry s at) n (or_parts (same_key (four_at s at) key) (seen_key (shown_keys s (next_entry s at) n) key) e).1 i (omega arith) q
 
   lacks_in : (at n : ℕ) → ((i : ℕ) → i < n → four_at s (walk_end s at i) ≡ key → ⊥) → seen_key (shown_keys s at n) key ≡ false
   unfolding walk_shown walk_end seen_key
@@ -184,7 +183,7 @@ module _ (s key : List ℕ) where
 
 -- ---- what is said at a key is not absent, and where none is left it is
 
-found_never : (s : List ℕ) (at m c : ℕ) → found_outcome s (met at m) ≡ accepted (absent c) → ◌≡◌ {A = ℕ} 0 1
+found_never : (s : List ℕ) (at m c : ℕ) → found_outcome s (met at m) ≡ accepted (absent c) → ⊥
 unfolding found_outcome
 found_never s at m c e = let k = (accepted_none (found_rules s at) (found (values_at s at) (size s at).value m) (absent c) e).1 in cc
 
@@ -310,7 +309,7 @@ module _ (s : List ℕ) (at : ℕ) (t₀ : List ℕ) (w : Walked) (taken : walk_
           where
             ended : (h : Halved) → Halves ≡ accepted h → found_outcome s h ≡ accepted (absent c) → seen_key (shown_keys s (first_entry s at) w.entries) key ≡ false
             ended (missing m) e f = lacks_in s key (first_entry s at) w.entries (missing_lacks m e)
-            ended (met at' m) e f = never (found_never s at' m c f)
+            ended (met at' m) e f = absurd (found_never s at' m c f)
 
         lacking : seen_key (shown_keys s (first_entry s at) w.entries) key ≡ false → (o : Outcome Halved) → Halves ≡ o → (c : ℕ) × (lookup_outcome s (key_table s at t₀) w.entries key ≡ accepted (absent c))
         lacking e (refused x p) q = absurd (lookup_compares x p q)

@@ -18,7 +18,7 @@ use Rattle.wire.specs.Table.{Rule, rule, refused, accepted, pick, first_met, Non
 use Rattle.wire.specs.Refusals.{DUPLICATE, ROOM}
 use Rattle.wire.specs.Counts.{count_rule}
 use Rattle.wire.specs.Words.{four_at, word_at, word_rules, word_order}
-use Rattle.wire.specs.declared.word.WordOrder.TheVariants.{Below}
+use Rattle.std.specs.declared.cmp.Ordering.TheVariants.{Less}
 use Rattle.wire.proofs.Tables.{accepted_none, none_accepted}
 use Rattle.wire.proofs.Words.{word_whole}
 use Rattle.keys.specs.Keys.{seen_key}
@@ -26,7 +26,6 @@ use Rattle.advice.specs.Walk.{size, values_at, next_entry, walk_rules, Walked, w
 use Rattle.advice.specs.Table.{offset_at, key_rules, key_outcome, map_entry_rules, map_entry_outcome, places_needed}
 use Rattle.advice.specs.Inner.{entry_rules, values_rules}
 use Rattle.advice.proofs.Entries.{entry_bytes_lem, all_whole}
-use Rattle.advice.proofs.Halving.{refused_never}
 use Rattle.advice.proofs.Risen.{rules_unmet, walk_risen, entry_of, place_of}
 
 -- ---- a refusal by a number that some rules have not comes after them
@@ -66,7 +65,7 @@ module _ {A : Type 0} (places : ℕ) (s : List ℕ) (v : A) (p : ℕ) where
 
   entries_room : (at n : ℕ) (seen : List (List ℕ)) → Enough at n (length seen) → first_met (walk_rules places s at n seen) v ≡ refused ROOM p → ⊥
   unfolding walk_rules first_met entry_rules word_rules values_rules
-  entries_room at zero seen h e = refused_never ROOM p v (sym e)
+  entries_room at zero seen h e = cc
   entries_room at (suc n) seen h e =
       let rest = walk_rules places s (next_entry s at) n (four_at s at ∷ seen) in
       let twice = rule DUPLICATE at (seen_key seen (four_at s at)) in
@@ -137,5 +136,5 @@ key_said s t i key e =
     let k = accepted_none (key_rules s t i) (four_at s (offset_at s t i)) key e in
     word_whole s (get_or t i 0) k.0.1.0 ∙ k.1
 
-pub keys_rise : (s t : List ℕ) (n : ℕ) → Risen s t n → (i j : ℕ) (a b : List ℕ) → i < j → j < n → key_outcome s t i ≡ accepted a → key_outcome s t j ≡ accepted b → word_order a b ≡ Below
+pub keys_rise : (s t : List ℕ) (n : ℕ) → Risen s t n → (i j : ℕ) (a b : List ℕ) → i < j → j < n → key_outcome s t i ≡ accepted a → key_outcome s t j ≡ accepted b → word_order a b ≡ Less
 keys_rise s t n r i j a b h k e f = rw (key_said s t i a e, key_said s t j b f) at (r.rise i j h k)

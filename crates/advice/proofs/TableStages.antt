@@ -1,42 +1,22 @@
--- The readers of the key table by place, taken apart as the code goes through them: an answer and the key beside it, stage by stage; and the
--- number of places that are enough.
+-- The readers of the key table by place, taken apart as the code goes through them, stage by stage; and the number of places that are enough.
 -- Assumes nothing.
-use mathlib.Core.Path.{◌≡◌, refl, sym, ap, ◌∙◌}
+use mathlib.Core.Path.{◌≡◌, refl, ap}
 use mathlib.Core.Bool.{Bool, true, false}
 use mathlib.Core.List.{List, [], ◌∷◌}
 use Prim.Native.Nat.{ℕ, ◌+◌, ◌-◌, ◌/◌, ◌≤◌, ◌<◌, min}
-use native.Mathlib.Omega.{arith}
 use borrow.Author.Tests.{ltb-false, le-leb, lt-leb, leb-false}
 use lib.ListN.{length, get_or}
 use Rattle.wire.specs.Table.{Outcome, refused, accepted, pick, first_met, ◌>>=◌, At}
-use Rattle.wire.specs.Refusals.{SHORT, INDEX, number_of}
+use Rattle.wire.specs.Refusals.{SHORT, INDEX}
 use Rattle.wire.specs.Le.{is_short}
 use Rattle.wire.specs.Counts.{counted, count_rule, count_outcome}
 use Rattle.wire.specs.Words.{four_at, word_rules, word_outcome}
-use Rattle.wire.specs.declared.refusal.Refusal.{Refusal}
 use Rattle.wire.specs.declared.count.Count.{Count}
 use Rattle.wire.proofs.Stages.{in_turn, in_the_end}
 use Rattle.wire.proofs.Tables.{accepted_none}
 use Rattle.advice.specs.Walk.{size, values_at}
-use Rattle.advice.specs.Table.{MapEntry, offset_at, key_rules, key_outcome, map_entry_rules, map_entry_outcome, key_of, entry_key_of, no_key, no_entry, places_needed}
-use Rattle.advice.specs.Shown.{shown_key, shown_map_entry}
+use Rattle.advice.specs.Table.{offset_at, key_rules, key_outcome, map_entry_rules, map_entry_outcome, places_needed}
 use Rattle.advice.specs.Inner.{values_rules, values_outcome}
-use Rattle.advice.specs.declared.table.KeyRead.{KeyRead}
-use Rattle.advice.specs.declared.table.MapEntryRead.{MapEntryRead}
-
--- ---- an answer says an outcome, and has its key beside it
-
-abbrev pub Keyed : KeyRead → Outcome (List ℕ) → Type 0
-Keyed r o = (shown_key r ≡ o) × (r.word ≡ key_of o)
-
-pub refused_key : (r : KeyRead) (why : Refusal) (p : ℕ) (o : Outcome (List ℕ)) → r ≡ no_key why p → o ≡ refused (number_of why) p → Keyed r o
-refused_key r why p o e q = rw (e, q) (refl, refl)
-
-abbrev pub Entered : MapEntryRead → Outcome MapEntry → Type 0
-Entered r o = (shown_map_entry r ≡ o) × (r.word ≡ entry_key_of o)
-
-pub refused_entry : (r : MapEntryRead) (why : Refusal) (p : ℕ) (o : Outcome MapEntry) → r ≡ no_entry why p → o ≡ refused (number_of why) p → Entered r o
-refused_entry r why p o e q = rw (e, q) (refl, refl)
 
 module _ (s t : List ℕ) (index : ℕ) where
   -- ---- the key
@@ -46,19 +26,11 @@ module _ (s t : List ℕ) (index : ℕ) where
   key_index h = rw (le-leb (length t) index h)
 
   module _ (there : index < length t) where
-    key_split : key_outcome s t index ≡ (word_outcome s (get_or t index 0) >>= (λ w. accepted w.value))
+    pub key_split : key_outcome s t index ≡ (word_outcome s (get_or t index 0) >>= (λ w. accepted w.value))
     unfolding key_outcome key_rules first_met word_outcome word_rules
     key_split =
         rw (lt-leb (length t) index there)
         (in_the_end (word_rules s (get_or t index 0)) (record { value = four_at s (get_or t index 0); next = get_or t index 0 + 32 }) (λ (w : At (List ℕ)). w.value))
-
-    pub key_word : (w : At (List ℕ)) → word_outcome s (get_or t index 0) ≡ accepted w → key_outcome s t index ≡ accepted w.value
-    unfolding ◌>>=◌
-    key_word w e = rw (key_split, e)
-
-    pub key_refused : (n p : ℕ) → word_outcome s (get_or t index 0) ≡ refused n p → key_outcome s t index ≡ refused n p
-    unfolding ◌>>=◌
-    key_refused n p e = rw (key_split, e)
 
   -- ---- where there is a key: its place is one of the table's, and its 32 bytes are in the file
 
@@ -76,25 +48,12 @@ module _ (s t : List ℕ) (index : ℕ) where
   abbrev at : ℕ
   at = get_or t index 0
 
-  entry_split : map_entry_outcome s t index ≡ (key_outcome s t index >>= (λ key. values_outcome s (at + 32) >>= (λ v. accepted (record { key = key; values = v.next; len = v.value }))))
+  pub entry_split : map_entry_outcome s t index ≡ (key_outcome s t index >>= (λ key. values_outcome s (at + 32) >>= (λ v. accepted (record { key = key; values = v.next; len = v.value }))))
   unfolding map_entry_outcome map_entry_rules key_outcome key_rules word_rules values_outcome values_rules
   entry_split =
       in_turn (key_rules s t index) (four_at s at) (λ _. values_rules s (at + 32)) (λ key. record { key = key; values = values_at s at; len = (size s at).value })
       (λ key. values_outcome s (at + 32) >>= (λ v. accepted (record { key = key; values = v.next; len = v.value })))
       (λ key. in_the_end (values_rules s (at + 32)) (record { value = (size s at).value; next = values_at s at }) (λ (v : At ℕ). record { key = key; values = v.next; len = v.value }))
-
-  pub entry_no_key : (n p : ℕ) → key_outcome s t index ≡ refused n p → map_entry_outcome s t index ≡ refused n p
-  unfolding ◌>>=◌
-  entry_no_key n p e = rw (entry_split, e)
-
-  module _ (key : List ℕ) (said : key_outcome s t index ≡ accepted key) where
-    pub entry_no_values : (n p : ℕ) → values_outcome s (at + 32) ≡ refused n p → map_entry_outcome s t index ≡ refused n p
-    unfolding ◌>>=◌
-    entry_no_values n p e = rw (entry_split, said, e)
-
-    pub entry_there : (len from : ℕ) → values_outcome s (at + 32) ≡ accepted (record { value = len; next = from }) → map_entry_outcome s t index ≡ accepted (record { key = key; values = from; len = len })
-    unfolding ◌>>=◌
-    entry_there len from e = rw (entry_split, said, e)
 
 -- ---- the number of places
 
@@ -118,12 +77,6 @@ module _ (s : List ℕ) (at : ℕ) where
     pub count_inside : next ≤ length s
     count_inside = let k = count_known in rw k.1.1 at (ltb-false (length s) (at + (counted s at).len) k.0)
 
-    places_are : places_needed s at ≡ min c.value ((length s - next) / 33 + 1)
+    pub places_are : places_needed s at ≡ min c.value ((length s - next) / 33 + 1)
     unfolding places_needed
     places_are = let k = count_known in rw (k.0, k.1.1, k.1.0)
-
-    pub places_room : (length s - next) / 33 + 1 < c.value → (length s - next) / 33 + 1 ≡ places_needed s at
-    places_room h = let e : min c.value ((length s - next) / 33 + 1) ≡ (length s - next) / 33 + 1 = omega arith in sym (places_are ∙ e)
-
-    pub places_count : c.value ≤ (length s - next) / 33 + 1 → c.value ≡ places_needed s at
-    places_count h = let e : min c.value ((length s - next) / 33 + 1) ≡ c.value = omega arith in sym (places_are ∙ e)

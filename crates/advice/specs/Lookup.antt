@@ -7,8 +7,8 @@ use Rattle.wire.specs.Refusals.{SHORT, OVERFLOW, ELEMENT, ROOM}
 use Rattle.wire.specs.Le.{is_short, short_rule, number_at, over}
 use Rattle.wire.specs.Counts.{count_rule}
 use Rattle.wire.specs.Words.{is_element, word_at, word_order}
-use Rattle.wire.specs.declared.word.WordOrder.{WordOrder}
-use Rattle.wire.specs.declared.word.WordOrder.TheVariants.{Below, Same, Above}
+use Rattle.std.specs.declared.cmp.Ordering.{Ordering}
+use Rattle.std.specs.declared.cmp.Ordering.TheVariants.{Less, Equal, Greater}
 use Rattle.advice.specs.Walk.{size, values_at}
 
 -- ---- the halving
@@ -18,10 +18,10 @@ pub data Halved : Type 0 where
   met : ℕ → ℕ → Halved
   missing : ℕ → Halved
 
-abbrev pub by_order : {A : Type 0} → WordOrder → A → A → A → A
-by_order Below a b c = a
-by_order Same a b c = b
-by_order Above a b c = c
+abbrev pub by_order : {A : Type 0} → Ordering → A → A → A → A
+by_order Less a b c = a
+by_order Equal a b c = b
+by_order Greater a b c = c
 
 -- The range of `size` offsets from `low` on. The middle is low + floor(size / 2). A compared key that is not all in the file: SHORT [its
 -- offset]. Keys are compared as numbers and not judged, and an equal one ends the search. Below the middle the size becomes

@@ -1,16 +1,11 @@
 -- The key table by place: the key at a place and the entry of the map there, over any bytes and any table; and how many places are enough to
 -- lend for a map.
 use Rattle.std.specs.Prelude.{ℕ, ◌+◌, ◌-◌, ◌*◌, ◌/◌, min, List, [], ◌∷◌, ◌++◌, leb, length, get_or}
-use Rattle.wire.specs.Table.{Rule, rule, Outcome, refused, accepted, pick, first_met}
+use Rattle.wire.specs.Table.{Rule, rule, Outcome, pick, first_met}
 use Rattle.wire.specs.Refusals.{OVERFLOW, INDEX}
 use Rattle.wire.specs.Le.{is_short, short_rule, over}
 use Rattle.wire.specs.Counts.{count_rule}
-use Rattle.wire.specs.Words.{zero_word, four_at, word_rules}
-use Rattle.wire.specs.declared.refusal.Refusal.{Refusal}
-use Rattle.advice.specs.declared.table.KeyAnswer.TheVariants as key
-use Rattle.advice.specs.declared.table.KeyRead.{KeyRead}
-use Rattle.advice.specs.declared.table.MapEntryAnswer.TheVariants as entry
-use Rattle.advice.specs.declared.table.MapEntryRead.{MapEntryRead}
+use Rattle.wire.specs.Words.{four_at, word_rules}
 use Rattle.advice.specs.Walk.{size, values_at, entry_count, first_entry}
 
 -- an entry of the map: its key, where its values start, and how many they are
@@ -43,22 +38,6 @@ module _ (s t : List ℕ) (index : ℕ) where
 
   unfoldable pub map_entry_outcome : Outcome MapEntry
   map_entry_outcome = first_met map_entry_rules (record { key = four_at s offset_at; values = values_at s offset_at; len = (size s offset_at).value })
-
--- what stands beside the answers: the key, or zeros where it is refused
-abbrev pub key_of : Outcome (List ℕ) → List ℕ
-key_of (refused n p) = zero_word
-key_of (accepted word) = word
-
-abbrev pub entry_key_of : Outcome MapEntry → List ℕ
-entry_key_of (refused n p) = zero_word
-entry_key_of (accepted e) = e.key
-
--- a refused answer, with zeros beside it
-abbrev pub no_key : Refusal → ℕ → KeyRead
-no_key why place = record { answer = key.Refused why place; word = zero_word }
-
-abbrev pub no_entry : Refusal → ℕ → MapEntryRead
-no_entry why place = record { answer = entry.Refused why place; word = zero_word }
 
 -- How many places are enough for the map at a place: none where its count is not whole; else as many as it says it has entries, or one more
 -- than the entries of 33 bytes, the least that an entry takes, that have room after the count. One more, since ROOM comes before the SHORT of the

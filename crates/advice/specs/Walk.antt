@@ -8,7 +8,7 @@ use Rattle.wire.specs.Le.{is_short, short_rule, over}
 use Rattle.wire.specs.Rows.{numbers_of}
 use Rattle.wire.specs.Counts.{long_ones, counted, count_rule}
 use Rattle.wire.specs.Words.{not_elements, four_at, word_at, word_order}
-use Rattle.wire.specs.declared.word.WordOrder.TheVariants.{Below}
+use Rattle.std.specs.declared.cmp.Ordering.TheVariants.{Less}
 use Rattle.wire.specs.declared.count.Count.{Count}
 use Rattle.keys.specs.Sorted.{sorted}
 use Rattle.keys.specs.Keys.{seen_key, key_less}
@@ -114,7 +114,7 @@ key_table s at table = table_of s (first_entry s at) table (walk_outcome (length
 pub record Risen (s t : List ℕ) (n : ℕ) : Type 0 where
   pub room : n ≤ length t
   pub whole : (i : ℕ) → i < n → is_short s (get_or t i 0) 32 ≡ false
-  pub rise : (i j : ℕ) → i < j → j < n → word_order (word_at s (get_or t i 0)) (word_at s (get_or t j 0)) ≡ Below
+  pub rise : (i j : ℕ) → i < j → j < n → word_order (word_at s (get_or t i 0)) (word_at s (get_or t j 0)) ≡ Less
 
 -- an entry of the map at a place: its number, below n, its key, and the place and the number of its values
 pub record EntryOf (s : List ℕ) (at n : ℕ) (key : List ℕ) (from len : ℕ) : Type 0 where

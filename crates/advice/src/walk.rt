@@ -1,52 +1,40 @@
 // The map walk: reads every entry, and leaves the offsets of the keys in the lent table, keys rising.
-ghost use Rattle.std.specs.Prelude.{◌≡◌, ◌*◌, length, replicate};
+ghost use Rattle.std.specs.Prelude.{◌≡◌, ◌*◌, length, OnOk};
 ghost use Rattle.wire.specs.Le.{is_short};
+ghost use Rattle.wire.specs.Shown.{shown_read};
 ghost use Rattle.advice.specs.Walk.{walk_outcome, key_table};
-ghost use Rattle.advice.specs.Inner.{length_outcome, values_outcome, shown_values, length_end_outcome, entry_end_outcome, shown_entry_end, entries_outcome, entries_table, FilledTo};
+ghost use Rattle.advice.specs.Inner.{length_outcome, values_outcome, shown_values, entry_end_outcome, FilledTo};
 ghost use Rattle.advice.specs.Shown.{shown_walk};
 
-use keys::sort::{Duplicate, settle};
-use wire::count::{Count, CountRead, long_one, read_count};
-use wire::refusal::Refusal;
+use keys::sort::settle;
+use wire::count::{Count, long_one, read_count};
+use wire::refusal::{Refusal, Refused};
 use wire::units::{ByteOffset, Cursor};
-use wire::word::{WordCheck, check_word};
+use wire::word::check_word;
 
 // The greatest length whose values take at most 2^64 - 1 bytes.
-const LENGTH_MAX: usize = 0x1FFF_FFFF_FFFF_FFFF;
+const LENGTH_MAX: usize = usize::MAX / 8;
 
-// The number of entries, the place after the map and how many of its counts are long, or why it is none.
+// A map that was walked: the number of its entries, the place after it, and how many of its counts are long.
 #[derive(Clone, Copy)]
-pub enum MapWalk {
-    Walked(usize, Cursor, usize),
-    Refused(Refusal, ByteOffset),
+pub struct Walked {
+    pub entries: usize,
+    pub end: Cursor,
+    pub long_counts: usize,
 }
 
-// Where an entry's values start and how many they are, or why there are none.
+// The values of a key: where they start, and how many elements they are.
 #[derive(Clone, Copy)]
-pub(crate) enum ValuesRead {
-    Whole(ByteOffset, usize),
-    Refused(Refusal, ByteOffset),
+pub struct Values {
+    pub at: ByteOffset,
+    pub len: usize,
 }
 
-// The place after an entry and whether its length is the shortest, or why there is none.
-#[derive(Clone, Copy)]
-enum EntryEnd {
-    Whole(Cursor, bool),
-    Refused(Refusal, ByteOffset),
-}
-
-// Why no more keys are filled in: the map ends, with so many long counts, or something is refused.
-#[derive(Clone, Copy)]
-enum Stop {
-    End(Cursor, usize),
-    Refused(Refusal, ByteOffset),
-}
-
-// How many keys were filled in, and why no more.
+// How many keys were filled in, and what the walk says unless one of them stands twice.
 #[derive(Clone, Copy)]
 struct Filled {
     n: usize,
-    stop: Stop,
+    walked: Result<Walked, Refused<ByteOffset>>,
 }
 
 // Whether so many values at a place are not all there. What is left is divided by 8, so that the place
@@ -61,64 +49,48 @@ fn values_short(s: &[u8], from: ByteOffset, len: usize) -> bool
 }
 
 // The values of a length that was read at a place, which start at `from`; they are not judged.
-fn values_from(s: &[u8], at: ByteOffset, length: Count, from: ByteOffset) -> ValuesRead
+fn values_from(
+    s: &[u8],
+    at: ByteOffset,
+    length: Count,
+    from: ByteOffset,
+) -> Result<Values, Refused<ByteOffset>>
     ensures { shown_values result ≡ length_outcome s.now at.0 (record { value = length; next = from.0 }) }
 {
     let len = length.value as usize;
     if LENGTH_MAX < len {
-        return ValuesRead::Refused(Refusal::Overflow, at);
+        return Err(Refused {
+            why: Refusal::Overflow,
+            at,
+        });
     }
     if values_short(s, from, len) {
-        return ValuesRead::Refused(Refusal::Short, from);
+        return Err(Refused {
+            why: Refusal::Short,
+            at: from,
+        });
     }
-    ValuesRead::Whole(from, len)
+    Ok(Values { at: from, len })
 }
 
 // The length at a place, and its values.
-pub(crate) fn read_values(s: &[u8], at: ByteOffset) -> ValuesRead
+pub(crate) fn read_values(s: &[u8], at: ByteOffset) -> Result<Values, Refused<ByteOffset>>
     ensures { shown_values result ≡ values_outcome s.now at.0 }
 {
-    match read_count(s, at) {
-        CountRead::Refused(why, place) => ValuesRead::Refused(why, place),
-        CountRead::Whole(length, next) => {
-            let from = next.at;
-            values_from(s, at, length, from)
-        }
-    }
+    let (length, from) = read_count(s, at)?;
+    values_from(s, at, length, from.at)
 }
 
-// The same for the walk, which also asks whether the length is the shortest, and where its values end.
-fn read_length(s: &[u8], at: ByteOffset) -> EntryEnd
-    ensures { shown_entry_end result ≡ length_end_outcome s.now at.0 }
+// The entry at a place, its key, its length and room for its values: whether its length is the shortest,
+// and the place after it.
+fn read_map_entry(s: &[u8], at: ByteOffset) -> Result<(bool, Cursor), Refused<ByteOffset>>
+    ensures { shown_read result ≡ entry_end_outcome s.now at.0 }
 {
-    match read_count(s, at) {
-        CountRead::Refused(why, place) => EntryEnd::Refused(why, place),
-        CountRead::Whole(length, next) => {
-            let from = next.at;
-            match values_from(s, at, length, from) {
-                ValuesRead::Refused(why, place) => EntryEnd::Refused(why, place),
-                ValuesRead::Whole(values, len) => {
-                    let end = Cursor {
-                        at: ByteOffset(values.0 + 8 * len),
-                    };
-                    EntryEnd::Whole(end, length.shortest)
-                }
-            }
-        }
-    }
-}
-
-// The entry at a place: its key, its length, and room for its values.
-fn read_map_entry(s: &[u8], at: ByteOffset) -> EntryEnd
-    ensures { shown_entry_end result ≡ entry_end_outcome s.now at.0 }
-{
-    match check_word(s, at) {
-        WordCheck::Refused(why, place) => EntryEnd::Refused(why, place),
-        WordCheck::Whole(next) => {
-            let length = next.at;
-            read_length(s, length)
-        }
-    }
+    let after_key = check_word(s, at)?;
+    let (length, from) = read_count(s, after_key.at)?;
+    let values = values_from(s, after_key.at, length, from.at)?;
+    let end = ByteOffset(values.at.0 + 8 * values.len);
+    Ok((length.shortest, Cursor { at: end }))
 }
 
 // Fills in the offsets of a map's keys as they come, up to the first entry that is refused, and counts the long counts.
@@ -127,88 +99,68 @@ fn fill(s: &[u8], at: ByteOffset, count: Count, keys: &mut [u64]) -> Filled
     ensures { FilledTo s.now at.0 count keys.old keys.new result }
 {
     let n = count.value as usize;
-    let mut i: usize = 0;
-    let mut from = at.0;
-    let mut long = long_one(count.shortest);
-    while i < n {
+    let mut from = at;
+    let mut long_counts = long_one(count.shortest);
+    for i in 0..n {
         if keys.len() <= i {
             return Filled {
                 n: i,
-                stop: Stop::Refused(Refusal::Room, ByteOffset(from)),
+                walked: Err(Refused {
+                    why: Refusal::Room,
+                    at: from,
+                }),
             };
         }
-        match read_map_entry(s, ByteOffset(from)) {
-            EntryEnd::Refused(why, place) => {
+        match read_map_entry(s, from) {
+            Err(refused) => {
                 return Filled {
                     n: i,
-                    stop: Stop::Refused(why, place),
+                    walked: Err(refused),
                 };
             }
-            EntryEnd::Whole(next, shortest) => {
-                keys[i] = from as u64;
-                from = next.at.0;
-                long += long_one(shortest);
-                i += 1;
+            Ok((shortest, next)) => {
+                keys[i] = from.0 as u64;
+                from = next.at;
+                long_counts += long_one(shortest);
             }
         }
     }
-    let end = Cursor {
-        at: ByteOffset(from),
-    };
     Filled {
-        n: i,
-        stop: Stop::End(end, long),
+        n,
+        walked: Ok(Walked {
+            entries: n,
+            end: Cursor { at: from },
+            long_counts,
+        }),
     }
 }
 
-fn clear(keys: &mut [u64])
-    ensures { keys.new ≡ replicate (length keys.old) 0 }
+// The walk, with the table as it was left where something is refused. A duplicate among the entries that were read comes
+// before what stopped the reading.
+fn walk_entries(s: &[u8], at: ByteOffset, keys: &mut [u64]) -> Result<Walked, Refused<ByteOffset>>
+    ensures result_value { shown_walk result ≡ walk_outcome (length keys.old) s.now at.0 }
+    ensures keys_after { OnOk result (keys.new ≡ key_table s.now at.0 keys.old) }
 {
-    let mut i: usize = 0;
-    while i < keys.len() {
-        keys[i] = 0;
-        i += 1;
+    let (count, first) = read_count(s, at)?;
+    let filled = fill(s, first.at, count, keys);
+    if let Some(twice) = settle(s, &mut keys[..filled.n]) {
+        return Err(Refused {
+            why: Refusal::Duplicate,
+            at: ByteOffset(twice as usize),
+        });
     }
-}
-
-// The walk over the entries of a map with this count. A duplicate among those that were read comes before what stopped
-// the reading.
-fn walk_entries(s: &[u8], at: ByteOffset, count: Count, keys: &mut [u64]) -> MapWalk
-    ensures result_value { shown_walk result ≡ entries_outcome (length keys.old) s.now at.0 count }
-    ensures keys_after { keys.new ≡ entries_table s.now at.0 count keys.old }
-{
-    let filled = fill(s, at, count, keys);
-    let k = filled.n;
-    let stop = filled.stop;
-    match settle(s, &mut keys[..k]) {
-        Duplicate::At(x) => {
-            clear(keys);
-            MapWalk::Refused(Refusal::Duplicate, ByteOffset(x as usize))
-        }
-        Duplicate::Nothing => match stop {
-            Stop::Refused(why, place) => {
-                clear(keys);
-                MapWalk::Refused(why, place)
-            }
-            Stop::End(end, long) => MapWalk::Walked(k, end, long),
-        },
-    }
+    filled.walked
 }
 
 // The map at a place. Accepted: its n key offsets are the table's first n numbers, keys rising, and the rest is as it was.
 // Refused: the whole table is zero.
-pub fn walk_map(s: &[u8], at: ByteOffset, keys: &mut [u64]) -> MapWalk
+pub fn walk_map(s: &[u8], at: ByteOffset, keys: &mut [u64]) -> Result<Walked, Refused<ByteOffset>>
     ensures result_value { shown_walk result ≡ walk_outcome (length keys.old) s.now at.0 }
     ensures keys_after { keys.new ≡ key_table s.now at.0 keys.old }
 {
-    match read_count(s, at) {
-        CountRead::Refused(why, place) => {
-            clear(keys);
-            MapWalk::Refused(why, place)
-        }
-        CountRead::Whole(count, next) => {
-            let first = next.at;
-            walk_entries(s, first, count, keys)
-        }
+    let walked = walk_entries(s, at, keys);
+    if walked.is_err() {
+        keys.fill(0);
     }
+    walked
 }

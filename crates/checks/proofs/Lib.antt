@@ -1,5 +1,3 @@
-pub mod Stages
 pub mod CheckLaws
-pub mod Answers
 pub mod Ordered
 pub mod BothWays

@@ -1,6 +1,8 @@
 -- The checks of all nodes: children, order, strict entries. Each reads the nodes from 0 on, and an entry refusal stops it there.
-use Rattle.std.specs.Prelude.{◌≡◌, ◌⊎◌, ℕ, ◌+◌, ◌≤◌, ◌<◌, not, List, [], ◌∷◌, ltb, leb, eqb}
+use Rattle.std.specs.Prelude.{Result, ◌≡◌, ◌⊎◌, ℕ, ◌+◌, ◌≤◌, ◌<◌, not, List, [], ◌∷◌, ltb, leb, eqb}
 use Rattle.wire.specs.Table.{Rule, rule, Outcome, accepted, first_met, checked, ◌>>=◌}
+use Rattle.wire.specs.Shown.{shown_by}
+use Rattle.wire.specs.declared.refusal.Refused.{Refused}
 use Rattle.wire.specs.Refusals.{CHILD-RANGE, FORWARD, ORDER, NOT-CANONICAL}
 use Rattle.info.specs.Node.{children_of, class_of}
 use Rattle.info.specs.Entry.{word_of}
@@ -8,6 +10,12 @@ use Rattle.info.specs.declared.MastNodeEntry.{MastNodeEntry}
 use Rattle.rows.specs.Rows.{row_word, node_pass}
 use Rattle.layout.specs.declared.forest.ForestLayout.{ForestLayout}
 use Rattle.resolved.specs.Nodes.{node_entry}
+
+-- ---- inner contract only: what the judges of nodes hand to each other
+
+-- what a judge answers of a node that reads is what a law says
+abbrev pub Judges : {S : Type 0} → (ℕ → S → MastNodeEntry → Result S (Refused ℕ) → Type 0) → (ℕ → S → MastNodeEntry → Outcome S) → (ℕ → Outcome MastNodeEntry) → Type 0
+Judges {S} Post law read = (i : ℕ) (before : S) (entry : MastNodeEntry) (r : Result S (Refused ℕ)) → read i ≡ accepted entry → Post i before entry r → shown_by (λ v. v) r ≡ law i before entry
 
 -- ---- children
 

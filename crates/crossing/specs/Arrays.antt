@@ -1,14 +1,12 @@
 -- Arrays of fixed length, and what they stand for. The length is the type's: a place past the end does not occur, and would read as 0.
-use Rattle.std.specs.Prelude.{ℕ, List, [], ◌∷◌, ◌++◌, eqb, get_or}
+use Rattle.std.specs.Prelude.{ℕ, List, [], ◌∷◌, ◌++◌, Option, Some, None, eqb, get_or}
+use Rattle.std.specs.Option.{option_map}
 use Rattle.wire.specs.Table.{pick}
+use Rattle.wire.specs.declared.units.ByteOffset.{ByteOffset}
 use Rattle.info.specs.declared.MastNodeEntry.{MastNodeEntry}
 use Rattle.info.specs.Node.{kind_of, numbers_of}
 use Rattle.layout.specs.Scan.{Scanned}
 use Rattle.layout.specs.declared.facts.FormatFacts.{FormatFacts}
-use Rattle.layout.specs.declared.facts.Bound.{Bound}
-use Rattle.layout.specs.declared.facts.Bound.TheVariants.{None, Bytes}
-use Rattle.layout.specs.declared.forest.HashSection.{HashSection}
-use Rattle.layout.specs.declared.forest.HashSection.TheVariants as hashes
 use Rattle.layout.specs.declared.forest.ForestLayout.{ForestLayout}
 
 -- ---- what an array stands for
@@ -25,9 +23,12 @@ facts_of marks most =
       max_nodes = most;
     }
 
--- a flag of 0 is no section
-unfoldable pub hashes_of : ℕ → ℕ → HashSection
-hashes_of flag at = pick (eqb flag 0) hashes.Absent (hashes.At (record { 0 = at }))
+-- a flag of 0 is none
+unfoldable pub optional_of : ℕ → ℕ → Option ℕ
+optional_of flag n = pick (eqb flag 0) None (Some n)
+
+abbrev pub hashes_of : ℕ → ℕ → Option ByteOffset
+hashes_of flag at = option_map (λ n. record { 0 = n }) (optional_of flag at)
 
 -- twelve numbers, in the order of the record's fields; the section of hashes is two of them
 unfoldable pub layout_of : List ℕ → ForestLayout
@@ -47,20 +48,18 @@ layout_of row =
       advice_map_offset = record { 0 = n 11 };
     }
 
--- a flag of 0 is no bound
-unfoldable pub bound_of : List ℕ → Bound
-bound_of row = pick (eqb (get_or row 0 0) 0) None (Bytes (get_or row 1 0))
+abbrev pub bound_of : List ℕ → Option ℕ
+bound_of row = optional_of (get_or row 0 0) (get_or row 1 0)
 
 -- ---- and back
 
--- 1 and the place, or 0 and 0
-abbrev pub hash_flag : HashSection → ℕ
-hash_flag (hashes.At at) = 1
-hash_flag hashes.Absent = 0
+-- 1 and the number, or 0 and 0
+abbrev pub optional_row : Option ℕ → List ℕ
+optional_row None = 0 ∷ 0 ∷ []
+optional_row (Some n) = 1 ∷ n ∷ []
 
-abbrev pub hash_place : HashSection → ℕ
-hash_place (hashes.At at) = at.0
-hash_place hashes.Absent = 0
+abbrev pub hash_row : Option ByteOffset → List ℕ
+hash_row hashes = optional_row (option_map (λ at. at.0) hashes)
 
 abbrev pub layout_row : ForestLayout → List ℕ
 layout_row l =
@@ -73,8 +72,8 @@ layout_row l =
     ∷ l.basic_block_len
     ∷ l.node_entry_offset.0
     ∷ l.external_digest_offset.0
-    ∷ hash_flag l.node_hash_offset
-    ∷ hash_place l.node_hash_offset
+    ∷ get_or (hash_row l.node_hash_offset) 0 0
+    ∷ get_or (hash_row l.node_hash_offset) 1 0
     ∷ l.advice_map_offset.0
     ∷ []
 
@@ -82,10 +81,8 @@ layout_row l =
 abbrev pub scanned_row : Scanned → List ℕ
 scanned_row x = layout_row x.layout ++ (x.long ∷ [])
 
--- 1 and the bytes, or 0 and 0
-abbrev pub bound_row : Bound → List ℕ
-bound_row None = 0 ∷ 0 ∷ []
-bound_row (Bytes n) = 1 ∷ n ∷ []
+abbrev pub bound_row : Option ℕ → List ℕ
+bound_row = optional_row
 
 -- the kind, by its tag, and two numbers, 0 where there are none
 abbrev pub entry_row : MastNodeEntry → List ℕ

@@ -10,7 +10,7 @@ use mathlib.Core.Logic.{◌⊎◌, inl, inr, ⊎_elim, ◌↔◌}
 use Prim.Native.Nat.{ℕ, ◌+◌, ◌*◌, ◌-◌, ◌/◌, ◌%◌, ◌^◌, ◌<◌, ◌≤◌}
 use native.Mathlib.Nat.{div-add-mod'}
 use native.Mathlib.Omega.{arith}
-use borrow.Author.Tests.{ltb-true, ltb-false, leb-false, lt-leb, le-ltb, lt-ltb}
+use borrow.Author.Tests.{ltb-true, ltb-false, leb-false, lt-leb, le-ltb}
 use lib.Dec.{ltb, leb}
 use lib.Pow.{high, low}
 use Rattle.wire.specs.Table.{accepted, pick, first_met, rule}
@@ -92,13 +92,6 @@ unfolding encode_outcome
 decoded_word at w e said = (accepted_none (rule PAYLOAD 0 (wide_ids e) ∷ []) (word_of e) (canonical w) (decoded_encodes at w e said)).1
 
 -- ---- canonical words
-
--- up to tag 5 the word, and from 6 on the tag alone
-pub canonical_below : (w : ℕ) → tag_of w < 6 → canonical w ≡ w
-canonical_below w h = rw (lt-ltb (tag_of w) 6 h) (div-add-mod' w (2 ^ 60))
-
-pub canonical_above : (w : ℕ) → 6 ≤ tag_of w → canonical w ≡ tag_of w * 2 ^ 60
-canonical_above w h = rw (le-ltb (tag_of w) 6 h) (omega arith)
 
 same_word : (w : ℕ) → (tag_of w < 6) ⊎ (payload_of w ≡ 0) → canonical w ≡ w
 same_word w h = go (ltb (tag_of w) 6) refl

@@ -1,4 +1,3 @@
-pub mod Arms
 pub mod Cases
 pub mod NodeLaws
 pub mod Laws

@@ -3,6 +3,7 @@
 --     kind_is_tag, numbers_pair, ..     the kind of what a tag and a payload read as is the tag, and its numbers are those of the payload
 --     decoded_kind                      so the kind of what a word decodes to is the word's tag
 --     decoded_external, decoded_class   and so are the questions that the kind answers
+--     class_there                       a class can be had back from its place in the order
 --     entry_rebuilt, kind_made          an entry can be had back from its kind and numbers, and a kind from what it makes
 -- Assumes nothing.
 use mathlib.Core.Path.{◌≡◌, refl, sym, ap, ◌∙◌}
@@ -16,6 +17,8 @@ use Rattle.wire.specs.Table.{accepted, pick}
 use Rattle.wire.proofs.Tables.{accepted_none}
 use Rattle.info.specs.Node.{kind_of, numbers_of, is_external, class_of, entry_with}
 use Rattle.info.specs.Entry.{tag_of, payload_of, entry_from, entry_of, bad_tag, decode_rules, decode_outcome}
+use Rattle.info.specs.Shown.{shown_class}
+use Rattle.info.proofs.Answers.{class_back}
 use Rattle.info.specs.declared.MastNodeEntry.{MastNodeEntry}
 use Rattle.info.specs.declared.MastNodeEntry.TheVariants.{Join, Split, Loop, Block, Call, SysCall, Dyn, Dyncall, External}
 
@@ -64,9 +67,6 @@ module _ (t p : ℕ) where
   numbers_read : t ≤ 8 → numbers_of (entry_from t p) ≡ numbers_for t p
   numbers_read h = by_tag (λ t. numbers_of (entry_from t p) ≡ numbers_for t p) refl refl refl refl refl refl refl refl refl t h
 
-  pub numbers_pair : t < 2 → numbers_of (entry_from t p) ≡ p / 2 ^ 30 ∷ p % 2 ^ 30 ∷ []
-  numbers_pair l = let h : t ≤ 8 = omega arith in numbers_read h ∙ rw (lt-ltb t 2 l)
-
   pub numbers_single : 2 ≤ t → t < 6 → numbers_of (entry_from t p) ≡ p ∷ []
   numbers_single l m = let h : t ≤ 8 = omega arith in numbers_read h ∙ rw (le-ltb t 2 l, lt-ltb t 6 m)
 
@@ -87,3 +87,15 @@ module _ (at w : ℕ) (e : MastNodeEntry) (said : decode_outcome at w ≡ accept
 
   pub decoded_class : class_of e ≡ pick (eqb (tag_of w) 8) 0 (pick (eqb (tag_of w) 3) 1 2)
   decoded_class = rw decoded_kind
+
+-- a class is had back from its place in the order
+pub class_there : (e : MastNodeEntry) → shown_class (class_back (class_of e)) ≡ class_of e
+class_there (Join left right) = refl
+class_there (Split then else) = refl
+class_there (Loop body) = refl
+class_there (Block offset) = refl
+class_there (Call callee) = refl
+class_there (SysCall callee) = refl
+class_there Dyn = refl
+class_there Dyncall = refl
+class_there External = refl

@@ -77,10 +77,6 @@ encode_outcome e = first_met (rule PAYLOAD 0 (wide_ids e) ∷ []) (word_of e)
 abbrev pub canonical : ℕ → ℕ
 canonical w = tag_of w * 2 ^ 60 + pick (ltb (tag_of w) 6) (payload_of w) 0
 
--- two ids under a tag: what the code's helper answers for
-unfoldable pub pair_outcome : ℕ → ℕ → ℕ → Outcome ℕ
-pair_outcome tag left right = first_met (rule PAYLOAD 0 (wide_id left || wide_id right) ∷ []) (tag * 2 ^ 60 + (left * 2 ^ 30 + right))
-
 -- The numbers of an entry are of 32 bits, as the code holds them.
 abbrev pub Held : MastNodeEntry → Type 0
 Held e = Below (2 ^ 32) (numbers_of e)

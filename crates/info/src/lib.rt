@@ -4,20 +4,21 @@
 
 pub mod node;
 
-ghost use Rattle.std.specs.Prelude.{◌≡◌, ◌<◌};
-ghost use Rattle.info.specs.Entry.{decode_outcome, encode_outcome, pair_outcome, canonical, entry_outcome};
-ghost use Rattle.info.specs.Shown.{shown_decoded, shown_encoded, shown_entry};
+ghost use Rattle.std.specs.Prelude.{◌≡◌, ◌+◌, ◌*◌, ◌^◌, ◌<◌, ◌≤◌, ◌||◌, IsTrue, Ok, Err};
+ghost use Rattle.wire.specs.declared.refusal.Refusal.TheVariants.{Payload};
+ghost use Rattle.wire.specs.Shown.{shown_read};
+ghost use Rattle.info.specs.Entry.{decode_outcome, encode_outcome, wide_id, canonical, entry_outcome};
+ghost use Rattle.info.specs.Shown.{shown_decoded, shown_encoded};
 
-use wire::number::{is_short, u64_at};
-use wire::refusal::Refusal;
+use crate::node::kind_of;
+use wire::number::read_u64;
+use wire::refusal::{Refusal, Refused};
 use wire::units::{ByteOffset, Cursor};
 
 // The tag is above the payload, and a pair is two ids below ID_LIMIT.
 const TAG_UNIT: u64 = 0x1000_0000_0000_0000;
 
 const ID_LIMIT: u64 = 0x4000_0000;
-
-const SINGLE_LIMIT: u64 = 0x1_0000_0000;
 
 #[derive(Clone, Copy)]
 pub enum MastNodeEntry {
@@ -47,120 +48,93 @@ pub enum MastNodeEntry {
     External,
 }
 
+// A refusal of a word or an entry alone, which stands at no place: it is told at 0.
+fn at_0(why: Refusal) -> Refused<ByteOffset>
+    ensures { result ≡ record { why = why; at = record { 0 = 0 } } }
+{
+    Refused {
+        why,
+        at: ByteOffset(0),
+    }
+}
+
+// The payload of one number.
+fn single(payload: u64) -> Result<u32, Refused<ByteOffset>>
+    ensures fits { payload < 2 ^ 32 → result ≡ Ok payload }
+    ensures wide { 2 ^ 32 ≤ payload → result ≡ Err (record { why = Payload; at = record { 0 = 0 } }) }
+{
+    u32::try_from(payload).map_err(|_| at_0(Refusal::Payload))
+}
+
 // The entry of a word, or TAG or PAYLOAD at 0.
-#[derive(Clone, Copy)]
-pub enum Decoded {
-    Entry(MastNodeEntry),
-    Refused(Refusal, ByteOffset),
+#[tactic(auto, unfolding(wire::specs::Table::first_met, crate::specs::Entry::decode_outcome, crate::specs::Entry::decode_rules, crate::specs::Entry::entry_of, crate::specs::Entry::bad_tag, crate::specs::Entry::bad_payload))]
+pub fn decode_entry(word: u64) -> Result<MastNodeEntry, Refused<ByteOffset>>
+    ensures { shown_decoded result ≡ decode_outcome 0 word }
+{
+    let payload = word % TAG_UNIT;
+    Ok(match word / TAG_UNIT {
+        0 => MastNodeEntry::Join {
+            left_child_id: (payload / ID_LIMIT) as u32,
+            right_child_id: (payload % ID_LIMIT) as u32,
+        },
+        1 => MastNodeEntry::Split {
+            if_branch_id: (payload / ID_LIMIT) as u32,
+            else_branch_id: (payload % ID_LIMIT) as u32,
+        },
+        2 => MastNodeEntry::Loop {
+            body_id: single(payload)?,
+        },
+        3 => MastNodeEntry::Block {
+            ops_offset: single(payload)?,
+        },
+        4 => MastNodeEntry::Call {
+            callee_id: single(payload)?,
+        },
+        5 => MastNodeEntry::SysCall {
+            callee_id: single(payload)?,
+        },
+        6 => MastNodeEntry::Dyn,
+        7 => MastNodeEntry::Dyncall,
+        8 => MastNodeEntry::External,
+        9.. => return Err(at_0(Refusal::Tag)),
+    })
+}
+
+// The payload of two ids.
+fn pair(left: u32, right: u32) -> Result<u64, Refused<ByteOffset>>
+    ensures fits { left < 2 ^ 30 → right < 2 ^ 30 → result ≡ Ok (left * 2 ^ 30 + right) }
+    ensures wide { IsTrue (wide_id left || wide_id right) → result ≡ Err (record { why = Payload; at = record { 0 = 0 } }) }
+{
+    let left_id = u64::from(left);
+    let right_id = u64::from(right);
+    if left_id < ID_LIMIT && right_id < ID_LIMIT {
+        Ok(left_id * ID_LIMIT + right_id)
+    } else {
+        Err(at_0(Refusal::Payload))
+    }
 }
 
 // The word of an entry, or PAYLOAD at 0.
-#[derive(Clone, Copy)]
-pub enum Encoded {
-    Word(u64),
-    Refused(Refusal, ByteOffset),
-}
-
-// An entry together with the next place, or SHORT, TAG or PAYLOAD at the place asked for.
-#[derive(Clone, Copy)]
-pub enum EntryRead {
-    Entry(MastNodeEntry, Cursor),
-    Refused(Refusal, ByteOffset),
-}
-
-pub fn decode_entry(word: u64) -> Decoded
-    ensures { shown_decoded result ≡ decode_outcome 0 word }
-{
-    let tag = word / TAG_UNIT;
-    let payload = word % TAG_UNIT;
-    match tag {
-        0 => Decoded::Entry(MastNodeEntry::Join {
-            left_child_id: (payload / ID_LIMIT) as u32,
-            right_child_id: (payload % ID_LIMIT) as u32,
-        }),
-        1 => Decoded::Entry(MastNodeEntry::Split {
-            if_branch_id: (payload / ID_LIMIT) as u32,
-            else_branch_id: (payload % ID_LIMIT) as u32,
-        }),
-        2 => {
-            if payload < SINGLE_LIMIT {
-                Decoded::Entry(MastNodeEntry::Loop {
-                    body_id: payload as u32,
-                })
-            } else {
-                Decoded::Refused(Refusal::Payload, ByteOffset(0))
-            }
-        }
-        3 => {
-            if payload < SINGLE_LIMIT {
-                Decoded::Entry(MastNodeEntry::Block {
-                    ops_offset: payload as u32,
-                })
-            } else {
-                Decoded::Refused(Refusal::Payload, ByteOffset(0))
-            }
-        }
-        4 => {
-            if payload < SINGLE_LIMIT {
-                Decoded::Entry(MastNodeEntry::Call {
-                    callee_id: payload as u32,
-                })
-            } else {
-                Decoded::Refused(Refusal::Payload, ByteOffset(0))
-            }
-        }
-        5 => {
-            if payload < SINGLE_LIMIT {
-                Decoded::Entry(MastNodeEntry::SysCall {
-                    callee_id: payload as u32,
-                })
-            } else {
-                Decoded::Refused(Refusal::Payload, ByteOffset(0))
-            }
-        }
-        6 => Decoded::Entry(MastNodeEntry::Dyn),
-        7 => Decoded::Entry(MastNodeEntry::Dyncall),
-        8 => Decoded::Entry(MastNodeEntry::External),
-        9..=15 => Decoded::Refused(Refusal::Tag, ByteOffset(0)),
-        _ => Decoded::Refused(Refusal::Tag, ByteOffset(0)),
-    }
-}
-
-// The word of two ids under a tag.
-fn pair_word(tag: u64, left: u32, right: u32) -> Encoded
-    requires { tag < 16 }
-    ensures { shown_encoded result ≡ pair_outcome tag left right }
-{
-    let left_id = left as u64;
-    let right_id = right as u64;
-    if left_id < ID_LIMIT {
-        if right_id < ID_LIMIT {
-            return Encoded::Word(tag * TAG_UNIT + (left_id * ID_LIMIT + right_id));
-        }
-    }
-    Encoded::Refused(Refusal::Payload, ByteOffset(0))
-}
-
-pub fn encode_entry(entry: MastNodeEntry) -> Encoded
+#[tactic(auto, unfolding(wire::specs::Table::first_met, crate::specs::Entry::encode_outcome))]
+pub fn encode_entry(entry: MastNodeEntry) -> Result<u64, Refused<ByteOffset>>
     ensures { shown_encoded result ≡ encode_outcome entry }
 {
-    match entry {
+    let payload = match entry {
         MastNodeEntry::Join {
-            left_child_id,
-            right_child_id,
-        } => pair_word(0, left_child_id, right_child_id),
-        MastNodeEntry::Split {
-            if_branch_id,
-            else_branch_id,
-        } => pair_word(1, if_branch_id, else_branch_id),
-        MastNodeEntry::Loop { body_id } => Encoded::Word(2 * TAG_UNIT + (body_id as u64)),
-        MastNodeEntry::Block { ops_offset } => Encoded::Word(3 * TAG_UNIT + (ops_offset as u64)),
-        MastNodeEntry::Call { callee_id } => Encoded::Word(4 * TAG_UNIT + (callee_id as u64)),
-        MastNodeEntry::SysCall { callee_id } => Encoded::Word(5 * TAG_UNIT + (callee_id as u64)),
-        MastNodeEntry::Dyn => Encoded::Word(6 * TAG_UNIT),
-        MastNodeEntry::Dyncall => Encoded::Word(7 * TAG_UNIT),
-        MastNodeEntry::External => Encoded::Word(8 * TAG_UNIT),
-    }
+            left_child_id: left,
+            right_child_id: right,
+        }
+        | MastNodeEntry::Split {
+            if_branch_id: left,
+            else_branch_id: right,
+        } => pair(left, right)?,
+        MastNodeEntry::Loop { body_id: number }
+        | MastNodeEntry::Block { ops_offset: number }
+        | MastNodeEntry::Call { callee_id: number }
+        | MastNodeEntry::SysCall { callee_id: number } => u64::from(number),
+        MastNodeEntry::Dyn | MastNodeEntry::Dyncall | MastNodeEntry::External => 0,
+    };
+    Ok(u64::from(kind_of(entry)) * TAG_UNIT + payload)
 }
 
 // The written form of the entry that a word reads as.
@@ -174,16 +148,11 @@ pub fn canonical_word(word: u64) -> u64
     tag * TAG_UNIT
 }
 
-// The entry at a place, with the next place.
-pub fn read_entry(s: &[u8], at: ByteOffset) -> EntryRead
-    ensures { shown_entry result ≡ entry_outcome s.now at.0 }
+// The entry at a place with the next place, or SHORT, TAG or PAYLOAD at the place asked for.
+pub fn read_entry(s: &[u8], at: ByteOffset) -> Result<(MastNodeEntry, Cursor), Refused<ByteOffset>>
+    ensures { shown_read result ≡ entry_outcome s.now at.0 }
 {
-    if is_short(s, at, 8) {
-        return EntryRead::Refused(Refusal::Short, at);
-    }
-    let next = ByteOffset(at.0 + 8);
-    match decode_entry(u64_at(s, at)) {
-        Decoded::Entry(entry) => EntryRead::Entry(entry, Cursor { at: next }),
-        Decoded::Refused(why, _) => EntryRead::Refused(why, at),
-    }
+    let (word, next) = read_u64(s, at)?;
+    let entry = decode_entry(word).map_err(|refused| refused.told_at(at))?;
+    Ok((entry, next))
 }

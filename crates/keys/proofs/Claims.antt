@@ -6,20 +6,21 @@ use mathlib.Core.Path.{◌≡◌, refl, sym, ap, ◌∙◌}
 use mathlib.Core.List.{List, [], ◌∷◌}
 use mathlib.Core.Bool.{Bool, true, false, ◌&&◌, cond}
 use mathlib.Core.Logic.{◌⊎◌, inl, inr, ⊎_elim}
-use Prim.Native.Nat.{ℕ, zero, suc, ◌+◌, ◌-◌, ◌*◌, ◌≤◌, ◌<◌}
+use Prim.Native.Nat.{ℕ, zero, suc, ◌+◌, ◌*◌, ◌≤◌, ◌<◌}
 use native.Mathlib.Decide.{ℕ_discrete}
-use native.Mathlib.Numerals.{add-one}
 use native.Mathlib.Omega.{arith}
 use borrow.Author.Tests.{lt-ltb, ltb-true, ltb-false, eq-eqb, eqb-true}
 use lib.Dec.{ltb, eqb}
 use lib.ListN.{length, get_or}
 use Rattle.wire.specs.Words.{word_order}
-use Rattle.wire.specs.declared.word.WordOrder.{WordOrder}
-use Rattle.wire.specs.declared.word.WordOrder.TheVariants.{Below, Same, Above}
+use Rattle.std.specs.declared.cmp.Ordering.{Ordering}
+use Rattle.std.specs.declared.cmp.Ordering.TheVariants.{Less, Equal, Greater}
 use Rattle.wire.proofs.Counts.{lt_or_ge}
 use Rattle.wire.proofs.Words.{order_transitive, order_same}
 use Rattle.keys.specs.Keys.{seen_key, or_else}
-use Rattle.keys.specs.Claim.{key_at, keys_before, comes_after, in_order, first_twice, claimed, sooner, stepped_by, stepped}
+use Rattle.keys.specs.Claim.{key_at, keys_before, comes_after, in_order, first_twice, claimed}
+use Rattle.std.specs.Prelude.{Option, Some, None}
+use Rattle.keys.specs.Sort.{earlier}
 use Rattle.keys.specs.declared.claim.Claim.{Claim}
 use Rattle.keys.specs.declared.claim.Claim.TheVariants.{Wrong, Apart, Repeat}
 use Rattle.keys.proofs.Keys.{Lt, Le, never, false_true, lt_irreflexive, lt_le, le_lt, le_same}
@@ -53,10 +54,10 @@ after_rise : (keys : List ℕ) (a b : ℕ) → comes_after keys a b ≡ true →
 unfolding comes_after
 after_rise keys a b h = go (word_order (key_at keys a) (key_at keys b)) refl h
   where
-    go : (o : WordOrder) → word_order (key_at keys a) (key_at keys b) ≡ o → or_else o (ltb a b) ≡ true → Rise (key_at keys a) a (key_at keys b) b
-    go Below e h = inl e
-    go Same e h = inr ((order_same (key_at keys a) (key_at keys b)).0 e, ltb-true a b h)
-    go Above e h = never (false_true (sym h))
+    go : (o : Ordering) → word_order (key_at keys a) (key_at keys b) ≡ o → or_else o (ltb a b) ≡ true → Rise (key_at keys a) a (key_at keys b) b
+    go Less e h = inl e
+    go Equal e h = inr ((order_same (key_at keys a) (key_at keys b)).0 e, ltb-true a b h)
+    go Greater e h = never (false_true (sym h))
 
 -- ---- n numbers below n, each of which comes after the one before it
 
@@ -213,17 +214,22 @@ Like keys order p = key_at keys (get_or order p 0) ≡ key_at keys (get_or order
 abbrev Noted : List ℕ → List ℕ → ℕ → ℕ → Type 0
 Noted keys order j r = (p : ℕ) × ((suc p < j) × (Like keys order p × (get_or order (suc p) 0 ≡ r)))
 
+abbrev pub SoFar : List ℕ → List ℕ → ℕ → Option ℕ → Type 0
+SoFar keys order j None = Along keys order j × ((p : ℕ) → suc p < j → Like keys order p → ⊥)
+SoFar keys order j (Some r) = Along keys order j × (Noted keys order j r × ((p : ℕ) → suc p < j → Like keys order p → r ≤ get_or order (suc p) 0))
+
+-- and what is known with them
 abbrev pub Known : List ℕ → List ℕ → ℕ → Claim → Type 0
 Known keys order j Wrong = in_order keys (length order) order ≡ true → ⊥
-Known keys order j Apart = Along keys order j × ((p : ℕ) → suc p < j → Like keys order p → ⊥)
-Known keys order j (Repeat r) = Along keys order j × (Noted keys order j r × ((p : ℕ) → suc p < j → Like keys order p → r ≤ get_or order (suc p) 0))
+Known keys order j Apart = SoFar keys order j None
+Known keys order j (Repeat r) = SoFar keys order j (Some r)
 
 -- of all below i and of i
 upto : (P : ℕ → Type 0) (i : ℕ) → ((p : ℕ) → suc p < suc i → P p) → P i → (p : ℕ) → suc p < suc (suc i) → P p
 upto P i all last p l = elim (ℕ_discrete p i) [ yes e ↦ rw e last | no d ↦ all p (omega arith) ]
 
 module _ (keys order : List ℕ) where
-  pub known_first : get_or order 0 0 < length order → Known keys order 1 Apart
+  pub known_first : get_or order 0 0 < length order → SoFar keys order 1 None
   known_first h = (
     record { below = λ p l. let z : p ≡ 0 = omega arith in rw z h; rise = λ p l. absurd (omega arith) },
     λ p l e. absurd (omega arith),
@@ -247,24 +253,22 @@ module _ (keys order : List ℕ) where
     noted_still r k = (k.0, (omega (arith, k.1.0), k.1.1))
 
     -- b's key is above
-    risen : (best : Claim) → b < length order → comes_after keys a b ≡ true → (Like keys order i → ⊥) → Known keys order (suc i) best → Known keys order (suc (suc i)) best
-    risen Wrong l r d k = k
-    risen Apart l r d k = (along_next l r k.0, upto (λ p. Like keys order p → ⊥) i k.1 d)
-    risen (Repeat x) l r d k = (
+    risen : (best : Option ℕ) → b < length order → comes_after keys a b ≡ true → (Like keys order i → ⊥) → SoFar keys order (suc i) best → SoFar keys order (suc (suc i)) best
+    risen None l r d k = (along_next l r k.0, upto (λ p. Like keys order p → ⊥) i k.1 d)
+    risen (Some x) l r d k = (
       along_next l r k.0,
       (noted_still x k.1.0, upto (λ p. Like keys order p → x ≤ get_or order (suc p) 0) i k.1.1 (λ e. absurd (d e))),
     )
 
     -- b's key is the same
-    repeated : (best : Claim) → b < length order → comes_after keys a b ≡ true → Like keys order i → Known keys order (suc i) best → Known keys order (suc (suc i)) (sooner best b)
-    repeated Wrong l r e k = k
-    repeated Apart l r e k = (
+    repeated : (best : Option ℕ) → b < length order → comes_after keys a b ≡ true → Like keys order i → SoFar keys order (suc i) best → SoFar keys order (suc (suc i)) (earlier best b)
+    repeated None l r e k = (
       along_next l r k.0,
       ((i, (omega arith, (e, refl))), upto (λ p. Like keys order p → b ≤ get_or order (suc p) 0) i (λ p m q. absurd (k.1 p m q)) (λ q. omega arith)),
     )
-    repeated (Repeat x) l r e k = go (ltb b x) refl
+    repeated (Some x) l r e k = go (ltb b x) refl
       where
-        go : (t : Bool) → ltb b x ≡ t → Known keys order (suc (suc i)) (cond t (Repeat b) (Repeat x))
+        go : (t : Bool) → ltb b x ≡ t → SoFar keys order (suc (suc i)) (cond t (Some b) (Some x))
         go true q =
             let less : b < x = ltb-true b x q in (
               along_next l r k.0,
@@ -276,31 +280,40 @@ module _ (keys order : List ℕ) where
               (noted_still x k.1.0, upto (λ p. Like keys order p → x ≤ get_or order (suc p) 0) i k.1.1 (λ s. less)),
             )
 
-    apart : (o : WordOrder) → word_order (key_at keys a) (key_at keys b) ≡ o → (comes_after keys a b ≡ or_else o (ltb a b)) × (o ≡ Below → Like keys order i → ⊥)
+    apart : (o : Ordering) → word_order (key_at keys a) (key_at keys b) ≡ o → (comes_after keys a b ≡ or_else o (ltb a b)) × (o ≡ Less → Like keys order i → ⊥)
     unfolding comes_after
     apart o e = (rw e, λ f s. lt_irreflexive (key_at keys b) (rw s at (e ∙ f)))
 
-    pub known_next : (best : Claim) → Known keys order (suc i) best → Known keys order (suc (suc i)) (stepped best keys (length order) a b)
-    unfolding stepped
-    known_next best k = go (ltb b (length order)) refl (word_order (key_at keys a) (key_at keys b)) refl
-      where
-        tie : (t : Bool) → ltb a b ≡ t → b < length order → word_order (key_at keys a) (key_at keys b) ≡ Same → Known keys order (suc (suc i)) (cond t (sooner best b) Wrong)
-        tie true q l e = repeated best l ((apart Same e).0 ∙ q) ((order_same (key_at keys a) (key_at keys b)).0 e) k
-        tie false q l e = λ holds. never (false_true (sym (rise_out keys (length order) order holds i h) ∙ (apart Same e).0 ∙ q))
+  -- the answers of the pass, at number i of what comes after the first number x
+  module _ (x : ℕ) (rest : List ℕ) (whole : order ≡ x ∷ rest) (i : ℕ) (h : i < length rest) (a : ℕ) (last : a ≡ get_or order i 0) where
+    abbrev this : ℕ
+    this = get_or rest i 0
 
-        go : (t : Bool) → ltb b (length order) ≡ t → (o : WordOrder) → word_order (key_at keys a) (key_at keys b) ≡ o
-            → Known keys order (suc (suc i)) (cond t (stepped_by o best a b) Wrong)
-        go false q o e = λ holds. let l = below_out keys (length order) order holds (suc i) h in let m = ltb-false b (length order) q in omega arith
-        go true q Below e = risen best (ltb-true b (length order) q) (apart Below e).0 ((apart Below e).1 refl) k
-        go true q Same e = tie (ltb a b) refl (ltb-true b (length order) q) e
-        go true q Above e = λ holds. never (false_true (sym (rise_out keys (length order) order holds i h) ∙ (apart Above e).0))
+    next : this ≡ get_or order (suc i) 0
+    next = rw whole refl
 
-  -- by the places of the loop
-  pub known_on : (j : ℕ) → 1 ≤ j → j < length order → (best next : Claim) → next ≡ stepped best keys (length order) (get_or order (j - 1) 0) (get_or order j 0)
-      → Known keys order j best → Known keys order (j + 1) next
-  known_on j l m best next said k =
-      let e : suc (j - 1) ≡ j = omega arith in
-      rw (said, add-one) (rw e at (known_next (j - 1) (omega arith) best (rw e k)))
+    inside : suc i < length order
+    inside = rw whole (omega arith)
+
+    pub known_above : (best : Option ℕ) → this < length order → word_order (key_at keys a) (key_at keys this) ≡ Less → SoFar keys order (suc i) best → SoFar keys order (suc (suc i)) best
+    known_above best l e k =
+        let f = apart i inside Less (rw (last, next) at e) in
+        risen i inside best (rw next at l) f.0 (f.1 refl) k
+
+    pub known_same : (best : Option ℕ) → this < length order → word_order (key_at keys a) (key_at keys this) ≡ Equal → a < this → SoFar keys order (suc i) best
+        → SoFar keys order (suc (suc i)) (earlier best this)
+    known_same best l e m k =
+        let f : word_order (key_at keys (get_or order i 0)) (key_at keys (get_or order (suc i) 0)) ≡ Equal = rw (last, next) at e in
+        let n : get_or order i 0 < get_or order (suc i) 0 = rw (last, next) at m in
+        rw next
+        (repeated i inside best (rw next at l) ((apart i inside Equal f).0 ∙ lt-ltb _ _ n) ((order_same _ _).0 f) k)
+
+    pub known_high : length order ≤ this → in_order keys (length order) order ≡ true → ⊥
+    known_high l holds = let m = below_out keys (length order) order holds (suc i) inside in omega (arith, next)
+
+    pub known_below : (o : Ordering) → word_order (key_at keys a) (key_at keys this) ≡ o → or_else o (ltb a this) ≡ false → in_order keys (length order) order ≡ true → ⊥
+    known_below o e q holds =
+        never (false_true (sym (rise_out keys (length order) order holds i inside) ∙ (apart i inside o (rw (last, next) at e)).0 ∙ rw (last, next) at q))
 
   -- ---- at the end
 
@@ -362,20 +375,20 @@ module _ (keys order : List ℕ) where
 -- ---- what a claim tells
 
 module _ (keys order : List ℕ) where
-  told : (b c : Bool) (x y : Claim) → cond (b && c) x Wrong ≡ y → (y ≡ Wrong → ⊥) → (b ≡ true) × (x ≡ y)
-  told true true x y e d = (refl, e)
-  told true false x y e d = absurd (d (sym e))
-  told false c x y e d = absurd (d (sym e))
+  both_hold : (b c : Bool) (x y : Claim) → cond (b && c) x Wrong ≡ y → (y ≡ Wrong → ⊥) → (b ≡ true) × (x ≡ y)
+  both_hold true true x y e d = (refl, e)
+  both_hold true false x y e d = absurd (d (sym e))
+  both_hold false c x y e d = absurd (d (sym e))
 
   pub claim_apart : claimed keys order ≡ Apart → (length keys ≡ 4 * length order) × ((q : ℕ) → q < length order → seen_at keys q ≡ false)
   unfolding claimed
   claim_apart e =
-      let k = told (eqb (length keys) (4 * length order)) (in_order keys (length order) order) (first_twice keys (length order) 0) Apart e (λ f. let z : ◌≡◌ {A = ℕ} 0 1 = cc in omega arith) in
+      let k = both_hold (eqb (length keys) (4 * length order)) (in_order keys (length order) order) (first_twice keys (length order) 0) Apart e (λ f. let z : ◌≡◌ {A = ℕ} 0 1 = cc in omega arith) in
       (eqb-true (length keys) (4 * length order) k.0, λ q l. none_out keys (length order) 0 k.1 q (omega arith) (omega arith))
 
   pub claim_repeat : (r : ℕ) → claimed keys order ≡ Repeat r → (seen_at keys r ≡ true) × ((q : ℕ) → q < r → seen_at keys q ≡ false)
   unfolding claimed
   claim_repeat r e =
-      let k = told (eqb (length keys) (4 * length order)) (in_order keys (length order) order) (first_twice keys (length order) 0) (Repeat r) e (λ f. let z : ◌≡◌ {A = ℕ} 0 1 = cc in omega arith) in
+      let k = both_hold (eqb (length keys) (4 * length order)) (in_order keys (length order) order) (first_twice keys (length order) 0) (Repeat r) e (λ f. let z : ◌≡◌ {A = ℕ} 0 1 = cc in omega arith) in
       let f = first_out keys (length order) 0 r k.1 in
       (f.seen, λ q l. f.new q (omega arith) l)

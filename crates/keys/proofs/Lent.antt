@@ -11,10 +11,11 @@ use borrow.Author.Tests.{lt-ltb, le-ltb}
 use lib.ListN.{length, take, drop, get_or}
 use lib.Seq.{drop-cons}
 use Rattle.wire.specs.Words.{zero_word, word_order}
-use Rattle.wire.specs.declared.word.WordOrder.{WordOrder}
-use Rattle.wire.specs.declared.word.WordOrder.TheVariants.{Below, Same, Above}
+use Rattle.std.specs.declared.cmp.Ordering.{Ordering}
+use Rattle.std.specs.declared.cmp.Ordering.TheVariants.{Less, Equal, Greater}
 use Rattle.wire.proofs.Counts.{lt_or_ge}
-use Rattle.keys.specs.Keys.{is_same, same_key, seen_key}
+use Rattle.std.specs.Ordering.{is_eq}
+use Rattle.keys.specs.Keys.{same_key, seen_key}
 use Rattle.keys.specs.Claim.{key_at, keys_before}
 
 -- ---- the numbers of a key
@@ -47,11 +48,11 @@ module _ (keys : List ℕ) (i : ℕ) where
 
 module _ (keys : List ℕ) (i : ℕ) (key : List ℕ) where
   -- compared with the last of them
-  pub seen_here : word_order (key_at keys i) key ≡ Same → seen_key (keys_before keys (suc i)) key ≡ true
+  pub seen_here : word_order (key_at keys i) key ≡ Equal → seen_key (keys_before keys (suc i)) key ≡ true
   unfolding keys_before seen_key same_key
   seen_here e = rw e
 
-  pub seen_on : is_same (word_order (key_at keys i) key) ≡ false → seen_key (keys_before keys (suc i)) key ≡ seen_key (keys_before keys i) key
+  pub seen_on : is_eq (word_order (key_at keys i) key) ≡ false → seen_key (keys_before keys (suc i)) key ≡ seen_key (keys_before keys i) key
   unfolding keys_before seen_key same_key
   seen_on e = rw e
 
@@ -60,29 +61,29 @@ unfolding keys_before seen_key
 seen_none keys key = refl
 
 -- none of them is the key
-pub all_others : (keys : List ℕ) (i : ℕ) (key : List ℕ) → ((j : ℕ) → j < i → word_order (key_at keys j) key ≡ Same → ⊥) → seen_key (keys_before keys i) key ≡ false
+pub all_others : (keys : List ℕ) (i : ℕ) (key : List ℕ) → ((j : ℕ) → j < i → word_order (key_at keys j) key ≡ Equal → ⊥) → seen_key (keys_before keys i) key ≡ false
 all_others keys zero key h = seen_none keys key
 all_others keys (suc i) key h =
     seen_on keys i key (other (word_order (key_at keys i) key) (h i (omega arith))) ∙ all_others keys i key (λ j l. h j (omega arith))
   where
-    other : (o : WordOrder) → (o ≡ Same → ⊥) → is_same o ≡ false
-    other Below n = refl
-    other Same n = absurd (n refl)
-    other Above n = refl
+    other : (o : Ordering) → (o ≡ Equal → ⊥) → is_eq o ≡ false
+    other Less n = refl
+    other Equal n = absurd (n refl)
+    other Greater n = refl
 
 -- number j is one of them
-pub one_seen : (keys : List ℕ) (i j : ℕ) (key : List ℕ) → j < i → word_order (key_at keys j) key ≡ Same → seen_key (keys_before keys i) key ≡ true
+pub one_seen : (keys : List ℕ) (i j : ℕ) (key : List ℕ) → j < i → word_order (key_at keys j) key ≡ Equal → seen_key (keys_before keys i) key ≡ true
 one_seen keys zero j key h e = absurd (omega arith)
 one_seen keys (suc i) j key h e = go (word_order (key_at keys i) key) refl (λ l. one_seen keys i j key l e)
   where
-    earlier : is_same (word_order (key_at keys i) key) ≡ false → (j < i → seen_key (keys_before keys i) key ≡ true) → seen_key (keys_before keys (suc i)) key ≡ true
+    earlier : is_eq (word_order (key_at keys i) key) ≡ false → (j < i → seen_key (keys_before keys i) key ≡ true) → seen_key (keys_before keys (suc i)) key ≡ true
     earlier n ih =
         ⊎_elim
         (λ l. seen_on keys i key n ∙ ih l)
         (λ m. let same : j ≡ i = omega arith in seen_here keys i key (rw same at e))
         (lt_or_ge j i)
 
-    go : (o : WordOrder) → word_order (key_at keys i) key ≡ o → (j < i → seen_key (keys_before keys i) key ≡ true) → seen_key (keys_before keys (suc i)) key ≡ true
-    go Same q ih = seen_here keys i key q
-    go Below q ih = earlier (rw q) ih
-    go Above q ih = earlier (rw q) ih
+    go : (o : Ordering) → word_order (key_at keys i) key ≡ o → (j < i → seen_key (keys_before keys i) key ≡ true) → seen_key (keys_before keys (suc i)) key ≡ true
+    go Equal q ih = seen_here keys i key q
+    go Less q ih = earlier (rw q) ih
+    go Greater q ih = earlier (rw q) ih

@@ -1,6 +1,4 @@
 pub mod Sorted
-pub mod Permuted
-pub mod Heap
 pub mod Keys
 pub mod Duplicates
 pub mod Lent

@@ -9,6 +9,7 @@ use native.Mathlib.Omega.{arith}
 use borrow.Author.Tests.{le-ltb, eqb-true, not-false}
 use lib.Dec.{eqb}
 use lib.ListN.{length}
+use Rattle.std.specs.Prelude.{Option}
 use Rattle.wire.specs.Table.{Outcome, refused, accepted, NoneMet}
 use Rattle.wire.specs.Refusals.{ROOT-ID}
 use Rattle.wire.specs.Le.{le_at, is_short}
@@ -22,7 +23,6 @@ use Rattle.layout.specs.Steps.{entry_section_rules}
 use Rattle.layout.specs.Accepted.{EndToEnd, Counted}
 use Rattle.layout.specs.Index.{root_at, root_outcome, node_outcome}
 use Rattle.layout.specs.declared.facts.FormatFacts.{FormatFacts}
-use Rattle.layout.specs.declared.facts.Bound.{Bound}
 use Rattle.layout.specs.declared.forest.ForestLayout.{ForestLayout}
 use Rattle.layout.proofs.Entries.{at_byte, words_pass}
 use Rattle.layout.proofs.Split.{count_1, count_2, count_3, count_4, maximum, roots_there, sections_there, entries_clean}
@@ -33,7 +33,7 @@ at_byte_lem : (first x : ℕ) (o : Outcome ℕ) → at_byte first o ≡ accepted
 at_byte_lem first x (refused k i) e = cc
 at_byte_lem first x (accepted y) e = e
 
-module _ (f : FormatFacts) (s : List ℕ) (allow : Bool) (bound : Bound) (unmet : NoneMet (scan_rules f s allow bound)) where
+module _ (f : FormatFacts) (s : List ℕ) (allow : Bool) (bound : Option ℕ) (unmet : NoneMet (scan_rules f s allow bound)) where
   abbrev l : ForestLayout
   l = layout_shown f s allow bound
 

@@ -21,7 +21,7 @@ use Rattle.info.specs.Entry.{entry_of, bad_tag, bad_payload, decode_rules, decod
 use Rattle.info.specs.declared.MastNodeEntry.{MastNodeEntry}
 use Rattle.rows.specs.Rows.{row_word, row_rules, row_outcome, node_pass, external_one, count_external, entry_pass}
 use Rattle.layout.specs.Scan.{words_rules, externals}
-use Rattle.layout.specs.Steps.{words_at, entry_section_rules}
+use Rattle.layout.specs.Steps.{Nodes, node_count, words_at, entry_section_rules}
 use Rattle.rows.proofs.RowLaws.{inside_row}
 
 -- ---- one word more at the end
@@ -138,23 +138,24 @@ pass_row s first (suc n) k p e = go (entry_pass (row_outcome s first) n) (λ q. 
     go (refused a b) h q = omega (arith, h (cc))
     go (accepted x) h q = last (row_outcome s first n) x (row_place_lem s first n k p) q
 
-module _ (s : List ℕ) (first n external external_at : ℕ) (inside : first + 8 * n ≤ length s) (fits : length s < 2 ^ 64) where
+module _ (s : List ℕ) (first : ℕ) (h : Nodes) (inside : first + 8 * node_count h ≤ length s) (fits : length s < 2 ^ 64) where
   -- the pass, and then the number of externals
-  stage : checked (entry_section_rules first n external external_at s)
-      ≡ (at_byte first (entry_pass (row_outcome s first) n) >>= (λ x. checked (rule EXTERNALS external_at (not (eqb x external)) ∷ [])))
+  stage : checked (entry_section_rules first h s)
+      ≡ (at_byte first (entry_pass (row_outcome s first) (node_count h)) >>= (λ x. checked (rule EXTERNALS h.external.start.0 (not (eqb x h.external.count)) ∷ [])))
   unfolding entry_section_rules
   stage =
-      in_turn (words_rules 8 first (words_at s first n)) (externals (words_at s first n)) (λ x. rule EXTERNALS external_at (not (eqb x external)) ∷ []) (λ _. tt) _ (λ x. refl)
-      ∙ rw (words_pass s first fits n inside)
+      let words = words_at s first (node_count h) in
+      in_turn (words_rules 8 first words) (externals words) (λ x. rule EXTERNALS h.external.start.0 (not (eqb x h.external.count)) ∷ []) (λ _. tt) _ (λ x. refl)
+      ∙ rw (words_pass s first fits (node_count h) inside)
 
-  pub entries_refused : (k i : ℕ) → entry_pass (row_outcome s first) n ≡ refused k i → checked (entry_section_rules first n external external_at s) ≡ refused k (first + 8 * i)
+  pub entries_refused : (k i : ℕ) → entry_pass (row_outcome s first) (node_count h) ≡ refused k i → checked (entry_section_rules first h s) ≡ refused k (first + 8 * i)
   unfolding ◌>>=◌
   entries_refused k i e = stage ∙ rw e
 
-  pub entries_differ : (x : ℕ) → entry_pass (row_outcome s first) n ≡ accepted x → (x ≡ external → ⊥) → checked (entry_section_rules first n external external_at s) ≡ refused EXTERNALS external_at
+  pub entries_differ : (x : ℕ) → entry_pass (row_outcome s first) (node_count h) ≡ accepted x → (x ≡ h.external.count → ⊥) → checked (entry_section_rules first h s) ≡ refused EXTERNALS h.external.start.0
   unfolding ◌>>=◌ first_met
-  entries_differ x e d = stage ∙ rw (e, ne_eqb x external d)
+  entries_differ x e d = stage ∙ rw (e, ne_eqb x h.external.count d)
 
-  pub entries_pass : (x : ℕ) → entry_pass (row_outcome s first) n ≡ accepted x → x ≡ external → checked (entry_section_rules first n external external_at s) ≡ accepted tt
+  pub entries_pass : (x : ℕ) → entry_pass (row_outcome s first) (node_count h) ≡ accepted x → x ≡ h.external.count → checked (entry_section_rules first h s) ≡ accepted tt
   unfolding ◌>>=◌ first_met
-  entries_pass x e d = stage ∙ rw (e, eq-eqb x external d)
+  entries_pass x e d = stage ∙ rw (e, eq-eqb x h.external.count d)

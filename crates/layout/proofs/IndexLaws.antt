@@ -1,22 +1,18 @@
 -- The cases of a root and of an entry by index.
 -- Assumes nothing.
 use mathlib.Core.Path.{◌≡◌}
-use mathlib.Core.Bool.{true, false}
+use mathlib.Core.Bool.{false}
 use mathlib.Core.List.{List}
 use Prim.Native.Nat.{ℕ, ◌≤◌, ◌<◌}
 use borrow.Author.Tests.{le-leb, lt-leb}
 use Rattle.wire.specs.Table.{refused, accepted, first_met}
-use Rattle.wire.specs.Refusals.{SHORT, OVERFLOW, INDEX, ROOT-ID}
+use Rattle.wire.specs.Refusals.{INDEX, ROOT-ID}
 use Rattle.wire.specs.Le.{le_at, is_short}
 use Rattle.rows.specs.Rows.{row_over, row_outcome}
 use Rattle.layout.specs.Index.{root_at, root_rules, root_outcome, node_rules, node_outcome}
 use Rattle.layout.specs.declared.forest.ForestLayout.{ForestLayout}
 
 module _ (s : List ℕ) (l : ForestLayout) (i : ℕ) where
-  pub no_root : l.roots_count ≤ i → root_outcome s l i ≡ refused INDEX i
-  unfolding root_outcome root_rules first_met
-  no_root h = rw (le-leb l.roots_count i h)
-
   pub no_node : l.node_count ≤ i → node_outcome s l i ≡ refused INDEX i
   unfolding node_outcome node_rules first_met
   no_node h = rw (le-leb l.node_count i h)
@@ -25,20 +21,11 @@ module _ (s : List ℕ) (l : ForestLayout) (i : ℕ) where
   unfolding node_outcome node_rules row_outcome first_met
   node_row h = rw (lt-leb l.node_count i h)
 
-  module _ (h : i < l.roots_count) where
-    pub root_over : row_over l.roots_offset.0 4 i ≡ true → root_outcome s l i ≡ refused OVERFLOW i
+  module _ (h : i < l.roots_count) (o : row_over l.roots_offset.0 4 i ≡ false) (q : is_short s (root_at s l i) 4 ≡ false) where
+    pub root_high : l.node_count ≤ le_at s (root_at s l i) 4 → root_outcome s l i ≡ refused ROOT-ID i
     unfolding root_outcome root_rules first_met
-    root_over o = rw (lt-leb l.roots_count i h, o)
+    root_high n = rw (lt-leb l.roots_count i h, o, q, le-leb l.node_count (le_at s (root_at s l i) 4) n)
 
-    module _ (o : row_over l.roots_offset.0 4 i ≡ false) where
-      pub root_short : is_short s (root_at s l i) 4 ≡ true → root_outcome s l i ≡ refused SHORT i
-      unfolding root_outcome root_rules first_met
-      root_short q = rw (lt-leb l.roots_count i h, o, q)
-
-      pub root_high : is_short s (root_at s l i) 4 ≡ false → l.node_count ≤ le_at s (root_at s l i) 4 → root_outcome s l i ≡ refused ROOT-ID i
-      unfolding root_outcome root_rules first_met
-      root_high q n = rw (lt-leb l.roots_count i h, o, q, le-leb l.node_count (le_at s (root_at s l i) 4) n)
-
-      pub root_found : is_short s (root_at s l i) 4 ≡ false → le_at s (root_at s l i) 4 < l.node_count → root_outcome s l i ≡ accepted (le_at s (root_at s l i) 4)
-      unfolding root_outcome root_rules first_met
-      root_found q n = rw (lt-leb l.roots_count i h, o, q, lt-leb l.node_count (le_at s (root_at s l i) 4) n)
+    pub root_found : le_at s (root_at s l i) 4 < l.node_count → root_outcome s l i ≡ accepted (le_at s (root_at s l i) 4)
+    unfolding root_outcome root_rules first_met
+    root_found n = rw (lt-leb l.roots_count i h, o, q, lt-leb l.node_count (le_at s (root_at s l i) 4) n)

@@ -1,6 +1,5 @@
 pub mod Tests
 pub mod Entries
-pub mod Stages
 pub mod IndexLaws
 pub mod Split
 pub mod Answers

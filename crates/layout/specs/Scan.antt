@@ -1,6 +1,6 @@
 -- The scan, in its order: the rules one line each, and what an accepted file's layout and its number of long counts are.
 -- Every read is total: past the end a byte reads as 0, and a rule before it has refused.
-use Rattle.std.specs.Prelude.{ℕ, ◌+◌, ◌*◌, Bool, not, ◌&&◌, List, [], ◌∷◌, ◌++◌, ltb, eqb, get_or}
+use Rattle.std.specs.Prelude.{ℕ, ◌+◌, ◌*◌, Bool, not, ◌&&◌, List, [], ◌∷◌, ◌++◌, Option, Some, None, ltb, eqb, get_or}
 use Rattle.std.proofs.Math.Seq.{slice}
 use Rattle.wire.specs.Table.{Rule, rule, Outcome, pick, first_met}
 use Rattle.wire.specs.Refusals.{MAGIC, VERSION, FLAGS, HASHLESS, OVERFLOW, TOO-MANY, BUDGET, EXTERNALS, FORMAT}
@@ -8,13 +8,11 @@ use Rattle.wire.specs.Le.{short_rule, over}
 use Rattle.wire.specs.Counts.{long_ones, counted, count_rule}
 use Rattle.wire.specs.Rows.{numbers_of, differs}
 use Rattle.wire.specs.declared.count.Count.{Count}
+use Rattle.wire.specs.declared.units.ByteOffset.{ByteOffset}
 use Rattle.info.specs.Node.{is_external}
 use Rattle.info.specs.Entry.{entry_of, decode_rules}
 use Rattle.layout.specs.Facts.{share, bad_format, over_budget, hash_bytes}
 use Rattle.layout.specs.declared.facts.FormatFacts.{FormatFacts}
-use Rattle.layout.specs.declared.facts.Bound.{Bound}
-use Rattle.layout.specs.declared.forest.HashSection.{HashSection}
-use Rattle.layout.specs.declared.forest.HashSection.TheVariants.{At, Absent}
 use Rattle.layout.specs.declared.forest.ForestLayout.{ForestLayout}
 
 -- what an accepted file gives: its layout, and how many of its four counts are long
@@ -35,8 +33,8 @@ externals [] = 0
 externals (w ∷ ws) = pick (is_external (entry_of w)) 1 0 + externals ws
 
 -- the hash section at a place, or none where the file is hashless
-abbrev pub section_at : Bool → ℕ → HashSection
-section_at hashless at = pick hashless Absent (At (record { 0 = at }))
+abbrev pub section_at : Bool → ℕ → Option ByteOffset
+section_at hashless at = pick hashless None (Some (record { 0 = at }))
 
 -- ---- the counts and the sections of a file, by their places
 
@@ -105,7 +103,7 @@ module _ (f : FormatFacts) (s : List ℕ) where
 
   -- ---- the table
 
-  module _ (allow : Bool) (bound : Bound) where
+  module _ (allow : Bool) (bound : Option ℕ) where
     unfoldable pub scan_rules : List Rule
     scan_rules =
         rule FORMAT 0 (bad_format f)

@@ -1,25 +1,24 @@
 -- What each answer says, by number and values.
-use Rattle.std.specs.Prelude.{ℕ}
-use Rattle.wire.specs.Table.{Outcome, refused, accepted}
-use Rattle.wire.specs.Refusals.{number_of}
+use Rattle.std.specs.Prelude.{ℕ, Result}
+use Rattle.wire.specs.Table.{Outcome}
+use Rattle.wire.specs.Shown.{shown_in, shown_by}
+use Rattle.wire.specs.declared.refusal.Refused.{Refused}
+use Rattle.wire.specs.declared.units.ByteOffset.{ByteOffset}
 use Rattle.layout.specs.Scan.{Scanned}
-use Rattle.layout.specs.declared.scan.Scan.{Scan}
-use Rattle.layout.specs.declared.scan.Scan.TheVariants as scan
-use Rattle.layout.specs.declared.scan.Check.{Check}
-use Rattle.layout.specs.declared.scan.Check.TheVariants as check
-use Rattle.layout.specs.declared.index.RootRead.{RootRead}
-use Rattle.layout.specs.declared.index.RootRead.TheVariants as root
+use Rattle.layout.specs.Steps.{Nodes, nodes_of}
+use Rattle.layout.specs.declared.head.Head.{Head}
+use Rattle.layout.specs.declared.scan.Scanned.{Scanned as Answer}
 
-abbrev pub shown_root : RootRead → Outcome ℕ
-shown_root (root.Root id) = accepted id
-shown_root (root.Refused why i) = refused (number_of why) i
+abbrev pub shown_root : Result ℕ (Refused ℕ) → Outcome ℕ
+shown_root = shown_by (λ id. id)
 
 -- the layout itself, and the number of long counts
-abbrev pub shown_scan : Scan → Outcome Scanned
-shown_scan (scan.Accepted l long) = accepted (record { layout = l; long = long })
-shown_scan (scan.Refused why at) = refused (number_of why) at.0
+abbrev pub shown_scan : Result Answer (Refused ByteOffset) → Outcome Scanned
+shown_scan = shown_in (λ r. record { layout = r.layout; long = r.long_counts })
 
--- of a stage: it passes, or refuses
-abbrev pub shown_check : Check → Outcome (Unit {0})
-shown_check check.Pass = accepted tt
-shown_check (check.Refused why at) = refused (number_of why) at.0
+-- of a stage: it passes with what it read, or refuses
+abbrev pub shown_stage : {A : Type 0} → Result A (Refused ByteOffset) → Outcome A
+shown_stage = shown_in (λ v. v)
+
+abbrev pub shown_head : Result Head (Refused ByteOffset) → Outcome Nodes
+shown_head = shown_in nodes_of

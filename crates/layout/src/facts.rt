@@ -1,7 +1,6 @@
-// What is given beside a file: the format facts and the allocation bound.
-ghost use Rattle.std.specs.Prelude.{◌≡◌, ◌<◌, length};
-ghost use Rattle.layout.specs.Facts.{bad_format, over_budget};
-ghost use Rattle.layout.specs.Given.{Given};
+// What is given beside a file: the format facts and the allocation bound, which is none or so many bytes.
+ghost use Rattle.std.specs.Prelude.{◌≡◌, ◌*◌, ◌≤◌, ◌<◌};
+ghost use Rattle.layout.specs.Facts.{bad_format, over_budget, hash_bytes};
 
 // The format facts, by value. Nothing here knows any others.
 #[derive(Clone, Copy)]
@@ -13,46 +12,27 @@ pub struct FormatFacts {
     pub max_nodes: usize,
 }
 
-// The allocation bound: none, or so many bytes.
-#[derive(Clone, Copy)]
-pub enum Bound {
-    None,
-    Bytes(usize),
-}
-
-// The arrays' lengths, which a contract does not see inside a record. Nothing is done.
-fn four_bytes(magic: [u8; 4])
-    ensures { length magic ≡ 4 }
-{}
-
-fn three_bytes(version: [u8; 3])
-    ensures { length version ≡ 3 }
-{}
-
-// What the types of a call's arguments say of them, for theorems that are about calls. Nothing is done.
-pub(crate) fn are_given(s: &[u8], f: FormatFacts)
-    ensures { Given f s.now }
-{
-    let magic = f.magic;
-    let version = f.version;
-    four_bytes(magic);
-    three_bytes(version);
-}
-
 // Whether the facts are no format. (`|`: each test is cheap, and none needs another.)
+#[tactic(auto, unfolding(crate::specs::Facts::bad_format))]
 pub fn bad_format(f: FormatFacts) -> bool
     ensures { result ≡ bad_format f }
 {
-    (u8::count_ones(f.hashless) != 1) | (f.hashless & f.reserved != 0) | (0x4000_0000 < f.max_nodes)
+    (f.hashless.count_ones() != 1) | (f.hashless & f.reserved != 0) | (0x4000_0000 < f.max_nodes)
 }
 
 // Whether so many things of a size are beyond the bound.
-pub(crate) fn over_budget(bound: Bound, size: usize, count: usize) -> bool
+#[tactic(auto, unfolding(crate::specs::Facts::over_budget))]
+pub(crate) fn over_budget(bound: Option<usize>, size: usize, count: usize) -> bool
     requires { 0 < size }
     ensures { result ≡ over_budget bound size count }
 {
-    match bound {
-        Bound::None => false,
-        Bound::Bytes(n) => n / size < count,
-    }
+    bound.is_some_and(|bytes| bytes / size < count)
+}
+
+// How many hashes of 32 bytes: one an internal node, none where the file is hashless.
+pub fn hash_count(hashless: bool, internal: usize) -> usize
+    ensures bytes { 32 * result ≡ hash_bytes hashless internal }
+    ensures few { result ≤ internal }
+{
+    if hashless { 0 } else { internal }
 }

@@ -2,14 +2,7 @@
 // to fit their file.
 use wire::units::{ByteOffset, Slot};
 
-// Where the node hashes lie; a hashless file has none.
-#[derive(Clone, Copy)]
-pub enum HashSection {
-    At(ByteOffset),
-    Absent,
-}
-
-// The counts of digest rows are the slots past the last row.
+// The counts of digest rows are the slots past the last row. A hashless file has no node hashes.
 #[derive(Clone, Copy)]
 pub struct ForestLayout {
     pub node_count: usize,
@@ -21,6 +14,6 @@ pub struct ForestLayout {
     pub basic_block_len: usize,
     pub node_entry_offset: ByteOffset,
     pub external_digest_offset: ByteOffset,
-    pub node_hash_offset: HashSection,
+    pub node_hash_offset: Option<ByteOffset>,
     pub advice_map_offset: ByteOffset,
 }

@@ -5,45 +5,50 @@ ghost use Rattle.rows.specs.Shown.{shown_row};
 ghost use Rattle.layout.specs.Shown.{shown_root};
 
 use crate::forest::ForestLayout;
-use rows::{RowEntry, RowPlace, row_entry, row_place};
+use info::MastNodeEntry;
+use rows::{row_entry, row_place};
 use wire::number::{is_short, u32_at};
-use wire::refusal::Refusal;
+use wire::refusal::{Refusal, Refused};
 
 // A procedure root, as a node's number, or why there is none, with the index asked for.
-#[derive(Clone, Copy)]
-pub enum RootRead {
-    Root(u32),
-    Refused(Refusal, usize),
-}
-
-pub fn read_procedure_root_at(s: &[u8], layout: ForestLayout, index: usize) -> RootRead
+#[tactic(auto, unfolding(crate::specs::Index::root_outcome, crate::specs::Index::root_rules, wire::specs::Le::number_at, wire::specs::Table::first_met))]
+pub fn read_procedure_root_at(
+    s: &[u8],
+    layout: ForestLayout,
+    index: usize,
+) -> Result<u32, Refused<usize>>
     ensures { shown_root result ≡ root_outcome s.now layout index }
 {
-    let roots = layout.roots_offset;
+    let refused = |why| Refused { why, at: index };
     if layout.roots_count <= index {
-        return RootRead::Refused(Refusal::Index, index);
+        return Err(refused(Refusal::Index));
     }
-    match row_place(roots, 4, index) {
-        RowPlace::Over => RootRead::Refused(Refusal::Overflow, index),
-        RowPlace::At(at) => {
-            if is_short(s, at, 4) {
-                return RootRead::Refused(Refusal::Short, index);
-            }
-            let id = u32_at(s, at);
-            if layout.node_count <= id as usize {
-                return RootRead::Refused(Refusal::RootId, index);
-            }
-            RootRead::Root(id as u32)
-        }
+    let Some(at) = row_place(layout.roots_offset, 4, index) else {
+        return Err(refused(Refusal::Overflow));
+    };
+    if is_short(s, at, 4) {
+        return Err(refused(Refusal::Short));
     }
+    let id = u32_at(s, at);
+    if layout.node_count <= id as usize {
+        return Err(refused(Refusal::RootId));
+    }
+    Ok(id as u32)
 }
 
-pub fn read_node_entry_at(s: &[u8], layout: ForestLayout, index: usize) -> RowEntry
+#[tactic(auto, unfolding(crate::specs::Index::node_outcome, crate::specs::Index::node_rules, rows::specs::Rows::row_outcome, wire::specs::Table::first_met))]
+pub fn read_node_entry_at(
+    s: &[u8],
+    layout: ForestLayout,
+    index: usize,
+) -> Result<MastNodeEntry, Refused<usize>>
     ensures { shown_row result ≡ node_outcome s.now layout index }
 {
-    let entries = layout.node_entry_offset;
     if layout.node_count <= index {
-        return RowEntry::Refused(Refusal::Index, index);
+        return Err(Refused {
+            why: Refusal::Index,
+            at: index,
+        });
     }
-    row_entry(s, entries, index)
+    row_entry(s, layout.node_entry_offset, index)
 }

@@ -4,5 +4,6 @@
 
 pub mod facts;
 pub mod forest;
+mod head;
 pub mod index;
 pub mod scan;

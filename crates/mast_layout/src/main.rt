@@ -4,8 +4,8 @@
 //
 // The five words replace the stand-in format facts: magic in 8 hexadecimal digits, version in 6, the two
 // masks in 2 each, the node maximum in decimal. Wrong words give one line on standard error, and nothing
-// is read. What is said, and where, is the proved function `program` of the crate page, whose types fix the
-// rooms lent here: this file moves bytes. The status is 0, and 1 where what is said could not be written.
+// is read. What is said, and where, is the proved function `program` of the crate page: this file moves bytes.
+// The status is 0, and 1 where what is said could not be written.
 #![tactic(auto)]
 
 ghost use Rattle.std.specs.Prelude.{◌≡◌, ℕ, ◌<◌, ◌≤◌, true, false, length, take, Ok, IfOk, OnErr};
@@ -20,27 +20,9 @@ use std::rt::Env;
 // The most bytes of a word.
 const WORD: usize = 64;
 
-fn word_room() -> [u8; 390]
-    ensures { 390 ≡ length result }
-{
-    [0; 390]
-}
-
-fn file_room() -> [u8; 65537]
-    ensures { 65537 ≡ length result }
-{
-    [0; 65537]
-}
-
-fn text_room() -> [u8; 512]
-    ensures { 512 ≡ length result }
-{
-    [0; 512]
-}
-
 // Puts the words of the command into the buffer, each with a zero after it, and answers how many bytes these
 // are. It stops where there is no room for one more word of 64 bytes. A longer one is put as an empty one,
-// which is wrong.
+// which is wrong. (A `while`: the room ends it, or the words, and neither is counted beforehand.)
 fn read_words(env: &impl Env, buf: &mut [u8]) -> usize
     ensures { result ≤ length buf.new }
 {
@@ -62,7 +44,8 @@ fn read_words(env: &impl Env, buf: &mut [u8]) -> usize
 }
 
 // Reads the input to its end, or until the room is full, and answers how many bytes these are; or nothing,
-// where it is not wanted. An error is the input's own: what came before it stands at the room's start.
+// where it is not wanted. An error is the input's own: what came before it stands at the room's start. (std's
+// `read_exact` refuses a shorter input, and `read_to_end` takes a `Vec`.)
 fn read_input<R: Read>(input: &mut R, buf: &mut [u8], unwanted: bool) -> io::Result<usize>
     ensures bound { IfOk result (λ n. n ≤ length buf.new) }
     ensures bytes { IfOk result (λ n. Consumes (R.remaining input.old) (R.remaining input.new) (take n buf.new)) }
@@ -100,16 +83,18 @@ fn say_unread(rt: &(impl Eprint + AllocGlobal), error: io::Error) -> io::Result<
 }
 
 fn main(rt: HostRuntime) -> io::Result<()> {
-    let mut words = word_room();
+    // Room for six words with their zeros, so that more than five are seen to be more; for a byte more of the file than is taken; and for
+    // any text.
+    let mut words = [0u8; 390];
+    let mut file = [0u8; 65537];
+    let mut out = [0u8; 512];
     let len = read_words(&rt, &mut words);
-    let mut file = file_room();
-    let unwanted = words_wrong(&words, len);
-    let size = match read_input(&mut rt.stdin(), &mut file, unwanted) {
+    let words = &words[..len];
+    let size = match read_input(&mut rt.stdin(), &mut file, words_wrong(words)) {
         Ok(size) => size,
         Err(error) => return say_unread(&rt, error),
     };
-    let mut out = text_room();
-    match program(&words, len, &file, size, &mut out) {
+    match program(words, &file[..size], &mut out) {
         Said::Output(k) => rt.stdout().write_all(&out[..k]),
         Said::Error(k) => rt.stderr().write_all(&out[..k]),
     }

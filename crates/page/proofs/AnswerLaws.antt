@@ -9,7 +9,7 @@ use lib.ListN.{length}
 use Rattle.wire.specs.Table.{Outcome, refused, accepted}
 use Rattle.wire.specs.Refusals.{ROOM}
 use Rattle.layout.specs.declared.facts.FormatFacts.{FormatFacts}
-use Rattle.layout.specs.declared.facts.Bound.TheVariants.{None}
+use Rattle.std.specs.Prelude.{None}
 use Rattle.whole.specs.Whole.{Sheet, whole_outcome, whole_keys}
 use Rattle.page.specs.Page.{page_text, refusal_text}
 use Rattle.page.proofs.Pages.{page_short, refusal_short}

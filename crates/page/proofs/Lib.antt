@@ -1,4 +1,3 @@
 pub mod Pages
-pub mod WordLaws
 pub mod AnswerLaws
 pub mod ProgramLaws

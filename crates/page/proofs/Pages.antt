@@ -5,42 +5,42 @@ use mathlib.Core.List.{List, [], ◌∷◌, ◌++◌}
 use Prim.Native.Nat.{ℕ, ◌+◌, ◌*◌, ◌≤◌}
 use native.Mathlib.Omega.{arith}
 use lib.ListN.{length}
-use Rattle.layout.specs.declared.forest.HashSection.{HashSection}
-use Rattle.layout.specs.declared.forest.HashSection.TheVariants.{At, Absent}
+use Rattle.std.specs.Prelude.{Option, Some, None}
+use Rattle.wire.specs.declared.units.ByteOffset.{ByteOffset}
 use Rattle.layout.specs.declared.forest.ForestLayout.{ForestLayout}
 use Rattle.text.specs.Text.{bytes, filled, longest}
 use Rattle.text.proofs.Lines.{holes, lines, filled_short}
 use Rattle.page.specs.Page.{nodes_line, roots_line, blocks_line, entries_line, digests_line, hashes_line, no_hashes_line, advice_line, refusal_line, hashes_text, page_text, refusal_text}
 
 -- the page's sixth line as a text, with its numbers
-abbrev pub hashes_form : HashSection → List ℕ
-hashes_form (At at) = hashes_line
-hashes_form Absent = no_hashes_line
+abbrev pub hashes_form : Option ByteOffset → List ℕ
+hashes_form (Some at) = hashes_line
+hashes_form None = no_hashes_line
 
-abbrev pub hashes_numbers : HashSection → List ℕ
-hashes_numbers (At at) = at.0 ∷ []
-hashes_numbers Absent = []
+abbrev pub hashes_numbers : Option ByteOffset → List ℕ
+hashes_numbers (Some at) = at.0 ∷ []
+hashes_numbers None = []
 
-as_many : (h : HashSection) → holes (hashes_form h) ≡ length (hashes_numbers h)
+as_many : (h : Option ByteOffset) → holes (hashes_form h) ≡ length (hashes_numbers h)
 unfolding bytes
-as_many (At at) = refl
-as_many Absent = refl
+as_many (Some at) = refl
+as_many None = refl
 
-sixth : (h : HashSection) → filled (hashes_form h) (hashes_numbers h) ≡ hashes_text h
+sixth : (h : Option ByteOffset) → filled (hashes_form h) (hashes_numbers h) ≡ hashes_text h
 unfolding hashes_text
-sixth (At at) = refl
-sixth Absent = refl
+sixth (Some at) = refl
+sixth None = refl
 
-abbrev pub page_form : HashSection → List ℕ
+abbrev pub page_form : Option ByteOffset → List ℕ
 page_form h = nodes_line ++ (roots_line ++ (blocks_line ++ (entries_line ++ (digests_line ++ (hashes_form h ++ advice_line)))))
 
 -- filled it has at most 512 bytes
-form_short : (h : HashSection) → 20 * holes (page_form h) + length (page_form h) ≤ 512
+form_short : (h : Option ByteOffset) → 20 * holes (page_form h) + length (page_form h) ≤ 512
 unfolding bytes
-form_short (At at) = omega arith
-form_short Absent = omega arith
+form_short (Some at) = omega arith
+form_short None = omega arith
 
-pub form_fits : (h : HashSection) → length (page_form h) ≤ longest
+pub form_fits : (h : Option ByteOffset) → length (page_form h) ≤ longest
 form_fits h = omega (arith, form_short h)
 
 module _ (l : ForestLayout) (end : ℕ) where
@@ -62,10 +62,10 @@ module _ (l : ForestLayout) (end : ℕ) where
   abbrev advice_numbers : List ℕ
   advice_numbers = l.advice_map_offset.0 ∷ end ∷ []
 
-  abbrev pub page_numbers : HashSection → List ℕ
+  abbrev pub page_numbers : Option ByteOffset → List ℕ
   page_numbers h = nodes_numbers ++ (roots_numbers ++ (blocks_numbers ++ (entries_numbers ++ (digests_numbers ++ (hashes_numbers h ++ advice_numbers)))))
 
-  whole : (h : HashSection) → filled (page_form h) (page_numbers h) ≡
+  whole : (h : Option ByteOffset) → filled (page_form h) (page_numbers h) ≡
       filled nodes_line nodes_numbers ++ (filled roots_line roots_numbers ++ (filled blocks_line blocks_numbers ++ (filled entries_line entries_numbers ++ (filled digests_line digests_numbers ++ (hashes_text h ++ filled advice_line advice_numbers)))))
   unfolding bytes
   whole h =
@@ -81,7 +81,7 @@ module _ (l : ForestLayout) (end : ℕ) where
       ∙ ap (λ x. filled digests_line digests_numbers ++ x)
       (lines (hashes_form h) advice_line (hashes_numbers h) advice_numbers (as_many h) ∙ ap (λ x. x ++ filled advice_line advice_numbers) (sixth h))))))
 
-  pub page_whole : (h : HashSection) → l.node_hash_offset ≡ h → filled (page_form h) (page_numbers h) ≡ page_text l end
+  pub page_whole : (h : Option ByteOffset) → l.node_hash_offset ≡ h → filled (page_form h) (page_numbers h) ≡ page_text l end
   unfolding page_text
   page_whole h e = rw e (whole h)
 

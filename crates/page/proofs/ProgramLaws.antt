@@ -1,117 +1,100 @@
 -- The laws of the small program: words in a list of bytes, the complaints' lines, and what is said.
 -- Assumes nothing.
-use mathlib.Core.Path.{◌≡◌, refl, sym, ap, ◌∙◌}
-use mathlib.Core.Bool.{true}
-use mathlib.Core.List.{List, [], flat_map}
-use Prim.Native.Nat.{ℕ, zero, suc, ◌+◌, ◌-◌, ◌≤◌, ◌<◌}
+use mathlib.Core.Path.{◌≡◌, refl, ap, ◌∙◌}
+use mathlib.Core.Bool.{Bool, true, false}
+use mathlib.Core.List.{List, [], ◌∷◌}
+use Prim.Native.Nat.{ℕ, zero, suc, ◌+◌, ◌≤◌}
 use native.Mathlib.Omega.{arith}
-use native.Mathlib.Numerals.{add-one}
-use borrow.Author.Tests.{eq-eqb, ne_eqb, le-ltb}
-use lib.ListN.{length, get_or, take, drop, length-append, drop_of_length-le}
-use lib.Seq.{drop-cons, drop-drop}
-use Rattle.wire.specs.Table.{Outcome, first_met}
+use borrow.Author.Tests.{le-ltb}
+use lib.Dec.{eqb}
+use lib.ListN.{length, get_or, drop, length-append}
+use Rattle.std.proofs.Common.{cond, count_by, Option, Some, None, option_map, unwrap_or, slice_get, Bor, sym, Result, Ok, Err, ◌⊎◌, inl, inr, is_err}
+use Rattle.std.specs.List.{slice_split, onto_first}
+use Rattle.std.proofs.lemmas.Option.{unwrap_or-slice_get}
+use Rattle.std.proofs.lemmas.List.Recursion.{is_count_by}
+use Rattle.wire.specs.Table.{Outcome, pick, first_met}
 use Rattle.layout.specs.declared.facts.FormatFacts.{FormatFacts}
 use Rattle.text.specs.Text.{bytes, filled, longest, text_outcome, with_text}
 use Rattle.text.specs.Marks.{before, past}
 use Rattle.text.specs.Shown.{text_len}
-use Rattle.page.specs.Words.{stand_in, no_facts, words_check, facts_beside}
-use Rattle.page.specs.Answer.{answer_text}
-use Rattle.page.specs.Program.{word_at, word_count, command_check, command_facts, is_wrong, command_wrong, complaints, complaint_text, Stream, Saying, output, error, saying_of, places, program_says, said_on, said, text_first}
-use Rattle.page.specs.Inner.{complaints_text}
+use Rattle.text.proofs.Lines.{holes, plain}
+use Rattle.page.specs.Program.{word_at, word_count, command_check, command_wrong, complaint_text, Stream, Saying, output, error, saying_of, places, program_says, said_on, said, text_first}
 use Rattle.page.specs.declared.program.Said.{Said}
 use Rattle.page.specs.declared.program.Said.TheVariants.{Output, Error}
-use Rattle.page.specs.declared.words.WordsCheck.{WordsCheck}
-use Rattle.page.specs.declared.words.WordsCheck.TheVariants.{Taken, Wrong}
-use Rattle.page.specs.declared.words.FactsRead.{FactsRead}
-use Rattle.text.proofs.Lines.{holes, plain}
-use Rattle.text.proofs.Marks.{before_take, past_drop}
+use Rattle.page.specs.declared.words.WrongWords.{WrongWords}
+use Rattle.page.specs.declared.words.WrongWords.TheVariants.{Count, Magic, Version, Hashless, Reserved, Maximum}
 use Rattle.page.proofs.AnswerLaws.{answer_short}
 
 -- ---- words
 
-module _ (s : List ℕ) (i : ℕ) (inside : i < length s) where
-  pub count_here : get_or s i 0 ≡ 0 → word_count (drop i s) ≡ 1 + word_count (drop (i + 1) s)
-  unfolding word_count
-  count_here h = rw (drop-cons s i 0 inside, eq-eqb (get_or s i 0) 0 h, add-one)
-
-  pub count_on : (get_or s i 0 ≡ 0 → ⊥) → word_count (drop i s) ≡ word_count (drop (i + 1) s)
-  unfolding word_count
-  count_on h = rw (drop-cons s i 0 inside, ne_eqb (get_or s i 0) 0 h, add-one)
-
-pub count_none : (s : List ℕ) (i : ℕ) → length s ≤ i → word_count (drop i s) ≡ 0
+pub word_count_is : (s : List ℕ) → word_count s ≡ count_by (λ b. eqb b 0) s
 unfolding word_count
-count_none s i end = rw (drop_of_length-le s end)
+word_count_is s = is_count_by word_count (λ b. eqb b 0) refl (λ b s. by_byte s (eqb b 0)) s
+  where
+    by_byte : (s : List ℕ) (m : Bool) → pick m (1 + word_count s) (word_count s) ≡ cond m (1 + word_count s) (word_count s)
+    by_byte s true = refl
+    by_byte s false = refl
 
 no_words : (k : ℕ) → word_at k [] ≡ []
 unfolding word_at before past
 no_words zero = refl
 no_words (suc k) = no_words k
 
--- the word from a place on, by its end
-module _ (s : List ℕ) (from end : ℕ) (at : end ≡ from + length (before 0 (drop from s))) where
-  pub word_part : take (end - from) (drop from s) ≡ word_at 0 (drop from s)
-  unfolding word_at
-  word_part = let e : end - from ≡ length (before 0 (drop from s)) = omega arith in rw e (before_take 0 (drop from s))
+-- cut at zeros, a list is what is before the first zero, and the same of what is past it, or nothing where there is no zero
+abbrev Cut : List ℕ → Type 0
+Cut s = (slice_split (λ b. eqb b 0) s ≡ before 0 s ∷ slice_split (λ b. eqb b 0) (past 0 s)) ⊎ ((slice_split (λ b. eqb b 0) s ≡ before 0 s ∷ []) × (past 0 s ≡ []))
 
-  pub next_word : (k : ℕ) → 0 < k → word_at k (drop from s) ≡ word_at (k - 1) (drop (end + 1) s)
-  unfolding word_at
-  next_word zero h = absurd (omega arith)
-  next_word (suc k) h =
-      let e : suc k - 1 ≡ k = omega arith in
-      let f : from + suc (length (before 0 (drop from s))) ≡ end + 1 = omega arith in
-      rw (e, past_drop 0 (drop from s), drop-drop (suc (length (before 0 (drop from s)))) from s, f)
+cut : (s : List ℕ) → Cut s
+unfolding before past
+cut [] = inr (refl, refl)
+cut (b ∷ s) = by_byte (eqb b 0) (cut s)
+  where
+    by_byte : (m : Bool) → Cut s → (cond m ([] ∷ slice_split (λ b. eqb b 0) s) (onto_first b (slice_split (λ b. eqb b 0) s)) ≡ pick m [] (b ∷ before 0 s) ∷ slice_split (λ b. eqb b 0) (pick m s (past 0 s)))
+        ⊎ ((cond m ([] ∷ slice_split (λ b. eqb b 0) s) (onto_first b (slice_split (λ b. eqb b 0) s)) ≡ pick m [] (b ∷ before 0 s) ∷ []) × (pick m s (past 0 s) ≡ []))
+    by_byte true h = inl refl
+    by_byte false (inl h) = inl (rw h)
+    by_byte false (inr h) = inr (rw h.0, h.1)
 
-  pub no_word_left : (k : ℕ) → 0 < k → length s ≤ end → word_at k (drop from s) ≡ []
-  no_word_left k h g =
-      let f : length s ≤ end + 1 = omega arith in
-      next_word k h ∙ ap (word_at (k - 1)) (drop_of_length-le s f) ∙ no_words (k - 1)
+pub word_at_is : (k : ℕ) (s : List ℕ) → word_at k s ≡ get_or (slice_split (λ b. eqb b 0) s) k []
+unfolding word_at
+word_at_is zero s = first (cut s)
+  where
+    first : Cut s → before 0 s ≡ get_or (slice_split (λ b. eqb b 0) s) 0 []
+    first (inl h) = rw h
+    first (inr h) = rw h.0
+word_at_is (suc k) s = later (cut s) (word_at_is k (past 0 s))
+  where
+    later : Cut s → word_at k (past 0 s) ≡ get_or (slice_split (λ b. eqb b 0) (past 0 s)) k [] → word_at k (past 0 s) ≡ get_or (slice_split (λ b. eqb b 0) s) (suc k) []
+    later (inl h) i = rw (h, i)
+    later (inr h) i = rw (h.0, h.1) (no_words k)
 
--- ---- the facts of a command
-
-module _ (words : List ℕ) where
-  pub no_command : word_count words ≡ 0 → (Taken ≡ command_check words) × (stand_in ≡ command_facts words)
-  unfolding command_check command_facts
-  no_command h = (rw (eq-eqb (word_count words) 0 h), rw (eq-eqb (word_count words) 0 h))
-
-  pub other_command : (word_count words ≡ 0 → ⊥) → (word_count words ≡ 5 → ⊥) → (Wrong 0 ≡ command_check words) × (no_facts ≡ command_facts words)
-  unfolding command_check command_facts
-  other_command g h =
-      (rw (ne_eqb (word_count words) 0 g, ne_eqb (word_count words) 5 h), rw (ne_eqb (word_count words) 0 g, ne_eqb (word_count words) 5 h))
-
-  pub five_words : (a b c d e : List ℕ) → a ≡ word_at 0 words → b ≡ word_at 1 words → c ≡ word_at 2 words → d ≡ word_at 3 words → e ≡ word_at 4 words →
-      word_count words ≡ 5 → (r : FactsRead) → r.answer ≡ words_check a b c d e → r.facts ≡ facts_beside a b c d e →
-      (r.answer ≡ command_check words) × (r.facts ≡ command_facts words)
-  unfolding command_check command_facts
-  five_words a b c d e ea eb ec ed ee n r p q = (p ∙ rw (ea, eb, ec, ed, ee, n), q ∙ rw (ea, eb, ec, ed, ee, n))
+-- the piece at a place, or none
+pub piece_said : (k : ℕ) (s : List ℕ) (r : Option (Bor (List ℕ))) (none : Bor (List ℕ)) → none.now ≡ [] → option_map (λ x. x.now) r ≡ slice_get (slice_split (λ b. eqb b 0) s) k →
+    (unwrap_or r none).now ≡ word_at k s
+piece_said k s r none e found =
+    rw (word_at_is k s, sym (unwrap_or-slice_get (slice_split (λ b. eqb b 0) s) k []), sym found) (by_piece r)
+  where
+    by_piece : (r : Option (Bor (List ℕ))) → (unwrap_or r none).now ≡ unwrap_or (option_map (λ x. x.now) r) []
+    by_piece (Some x) = refl
+    by_piece None = e
 
 -- ---- the complaints
 
-complaint_at : (k : ℕ) → word_at k complaints_text ≡ complaint_text k
-unfolding complaints complaints_text complaint_text bytes flat_map word_at before past
-complaint_at zero = refl
-complaint_at (suc zero) = refl
-complaint_at (suc (suc zero)) = refl
-complaint_at (suc (suc (suc zero))) = refl
-complaint_at (suc (suc (suc (suc zero)))) = refl
-complaint_at (suc (suc (suc (suc (suc zero))))) = refl
-complaint_at (suc (suc (suc (suc (suc (suc k)))))) = no_words k
-
 -- none has a hole, or is long
-complaint_plain : (k : ℕ) → (holes (complaint_text k) ≡ 0) × (length (complaint_text k) ≤ 512)
-unfolding complaints complaint_text bytes
-complaint_plain zero = (refl, omega arith)
-complaint_plain (suc zero) = (refl, omega arith)
-complaint_plain (suc (suc zero)) = (refl, omega arith)
-complaint_plain (suc (suc (suc zero))) = (refl, omega arith)
-complaint_plain (suc (suc (suc (suc zero)))) = (refl, omega arith)
-complaint_plain (suc (suc (suc (suc (suc zero))))) = (refl, omega arith)
-complaint_plain (suc (suc (suc (suc (suc (suc k)))))) = (refl, omega arith)
+complaint_plain : (wrong : WrongWords) → (holes (complaint_text wrong) ≡ 0) × (length (complaint_text wrong) ≤ 512)
+unfolding complaint_text bytes
+complaint_plain Count = (refl, omega arith)
+complaint_plain Magic = (refl, omega arith)
+complaint_plain Version = (refl, omega arith)
+complaint_plain Hashless = (refl, omega arith)
+complaint_plain Reserved = (refl, omega arith)
+complaint_plain Maximum = (refl, omega arith)
 
-pub complaint_as : (form numbers : List ℕ) (k : ℕ) → form ≡ word_at k complaints_text → (length form ≤ longest) × (filled form numbers ≡ complaint_text k)
-complaint_as form numbers k e =
-    let p = complaint_plain k in
-    let s = e ∙ complaint_at k in
-    (rw s (omega (arith, p.1)), rw s (plain (complaint_text k) numbers 0 p.0))
+pub complaint_fits : (wrong : WrongWords) → length (complaint_text wrong) ≤ longest
+complaint_fits wrong = omega (arith, complaint_plain wrong)
+
+pub complaint_as : (wrong : WrongWords) (numbers : List ℕ) → filled (complaint_text wrong) numbers ≡ complaint_text wrong
+complaint_as wrong numbers = plain (complaint_text wrong) numbers 0 (complaint_plain wrong).0
 
 -- ---- what is said
 
@@ -120,19 +103,15 @@ pub wrong_unread : (words s t : List ℕ) → command_wrong words ≡ true → p
 unfolding program_says command_wrong
 wrong_unread words s t h = by_check (command_check words) h
   where
-    by_check : (c : WordsCheck) → is_wrong c ≡ true → saying_of c (answer_text (command_facts words) places s) ≡ saying_of c (answer_text (command_facts words) places t)
-    by_check Taken e = cc
-    by_check (Wrong k) e = refl
+    by_check : (c : Result FormatFacts WrongWords) → is_err c ≡ true → saying_of c s ≡ saying_of c t
+    by_check (Ok facts) e = cc
+    by_check (Err wrong) e = refl
 
 -- no text has more than 512 bytes
 
-saying_short : (c : WordsCheck) (answer : List ℕ) → length answer ≤ 512 → length (saying_of c answer).text ≤ 512
-saying_short Taken answer h = h
-saying_short (Wrong k) answer h = (complaint_plain k).1
-
-says_short : (words input : List ℕ) → length (program_says words input).text ≤ 512
-unfolding program_says
-says_short words input = saying_short (command_check words) (answer_text (command_facts words) places input) (answer_short (command_facts words) places input)
+saying_short : (c : Result FormatFacts WrongWords) (input : List ℕ) → length (saying_of c input).text ≤ 512
+saying_short (Ok facts) input = answer_short facts places input
+saying_short (Err wrong) input = (complaint_plain wrong).1
 
 abbrev pub said_len : Said → ℕ
 said_len (Output n) = n
@@ -158,22 +137,13 @@ module _ (out text : List ℕ) (n : ℕ) (o : Outcome ℕ) (fits : length text �
   unfolding with_text
   text_first_lem = rw (le-ltb (length out) (length text) fits)
 
-module _ (words input out : List ℕ) (n : ℕ) (o : Outcome ℕ) (room : length out ≡ 512) (counted : n ≡ text_len o) where
-  spoken : (x : Saying) → x ≡ program_says words input → o ≡ text_outcome out x.text →
-      (said_on x.stream n ≡ said (program_says words input)) × (with_text out x.text ≡ text_first (program_says words input).text out)
-  spoken x e p =
-      let short = rw (sym e) at (says_short words input) in
-      let fits : length x.text ≤ length out = omega arith in
+-- so what is said of the checked words is their saying, and stands in the buffer
+module _ (words input out : List ℕ) (n : ℕ) (o : Outcome ℕ) (c : Result FormatFacts WrongWords) (room : length out ≡ 512) (counted : n ≡ text_len o) (checked : c ≡ command_check words) where
+  pub spoken : o ≡ text_outcome out (saying_of c input).text →
+      (said_on (saying_of c input).stream n ≡ said (program_says words input)) × (with_text out (saying_of c input).text ≡ text_first (program_says words input).text out)
+  unfolding program_says
+  spoken p =
+      let x = saying_of c input in
+      let fits : length x.text ≤ length out = omega (arith, saying_short c input) in
+      let e : x ≡ saying_of (command_check words) input = rw checked in
       (rw (written_whole out x.text n o fits counted p) (ap said e), text_first_lem out x.text n o fits ∙ ap (λ (y : Saying). text_first y.text out) e)
-
-  -- of the words, and of a list that is them
-  pub answer_said : (f : FormatFacts) (k : ℕ) (w i : List ℕ) → w ≡ words → i ≡ input → Taken ≡ command_check w → f ≡ command_facts w → k ≡ places →
-      o ≡ text_outcome out (answer_text f k i) →
-      (Output n ≡ said (program_says words input)) × (with_text out (answer_text f k i) ≡ text_first (program_says words input).text out)
-  unfolding program_says
-  answer_said f k w i ew ei c e p = spoken (record { stream = output; text = answer_text f k i }) (rw (sym ew, sym ei, e, p, sym c))
-
-  pub complaint_said : (k : ℕ) (w : List ℕ) → w ≡ words → Wrong k ≡ command_check w → o ≡ text_outcome out (complaint_text k) →
-      (Error n ≡ said (program_says words input)) × (with_text out (complaint_text k) ≡ text_first (program_says words input).text out)
-  unfolding program_says
-  complaint_said k w ew c = spoken (record { stream = error; text = complaint_text k }) (rw (sym ew, sym c))

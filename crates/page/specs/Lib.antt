@@ -2,4 +2,3 @@ pub mod Page
 pub mod Words
 pub mod Answer
 pub mod Program
-pub mod Inner

@@ -1,7 +1,6 @@
 -- The page of a file, line by line, and the line of a refusal. `#` is a hole for a number.
-use Rattle.std.specs.Prelude.{ℕ, List, [], ◌∷◌, ◌++◌}
-use Rattle.layout.specs.declared.forest.HashSection.{HashSection}
-use Rattle.layout.specs.declared.forest.HashSection.TheVariants.{At, Absent}
+use Rattle.std.specs.Prelude.{ℕ, List, [], ◌∷◌, ◌++◌, Option, Some, None}
+use Rattle.wire.specs.declared.units.ByteOffset.{ByteOffset}
 use Rattle.layout.specs.declared.forest.ForestLayout.{ForestLayout}
 use Rattle.text.specs.Text.{bytes, filled}
 
@@ -37,9 +36,9 @@ refusal_line = bytes "refused # at #\n"
 -- ---- the page
 
 -- the sixth line: where the node hashes lie, or `none` exactly if the layout says that there are none
-unfoldable pub hashes_text : HashSection → List ℕ
-hashes_text (At at) = filled hashes_line (at.0 ∷ [])
-hashes_text Absent = filled no_hashes_line []
+unfoldable pub hashes_text : Option ByteOffset → List ℕ
+hashes_text (Some at) = filled hashes_line (at.0 ∷ [])
+hashes_text None = filled no_hashes_line []
 
 -- The seven lines for a layout and the end of its map. Blocks are counted in bytes of block data.
 unfoldable pub page_text : ForestLayout → ℕ → List ℕ

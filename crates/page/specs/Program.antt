@@ -1,15 +1,15 @@
 -- The small program: from the words of its command and the bytes of its input to what it says, and where. The words come as one list of bytes,
 -- in which each is ended by a zero byte; no word of a command holds one.
-use Rattle.std.specs.Prelude.{ℕ, zero, suc, ◌+◌, Bool, true, false, List, [], ◌∷◌, ◌++◌, eqb, length, get_or, drop}
+use Rattle.std.specs.Prelude.{ℕ, zero, suc, ◌+◌, Bool, List, [], ◌∷◌, ◌++◌, Result, Ok, Err, eqb, length, drop, is_err}
 use Rattle.wire.specs.Table.{pick}
 use Rattle.layout.specs.declared.facts.FormatFacts.{FormatFacts}
 use Rattle.text.specs.Text.{bytes}
 use Rattle.text.specs.Marks.{before, past}
-use Rattle.page.specs.declared.words.WordsCheck.{WordsCheck}
-use Rattle.page.specs.declared.words.WordsCheck.TheVariants.{Taken, Wrong}
+use Rattle.page.specs.declared.words.WrongWords.{WrongWords}
+use Rattle.page.specs.declared.words.WrongWords.TheVariants.{Count, Magic, Version, Hashless, Reserved, Maximum}
 use Rattle.page.specs.declared.program.Said.{Said}
 use Rattle.page.specs.declared.program.Said.TheVariants.{Output, Error}
-use Rattle.page.specs.Words.{stand_in, no_facts, words_check, facts_beside}
+use Rattle.page.specs.Words.{stand_in, words_check}
 use Rattle.page.specs.Answer.{answer_text}
 
 -- ---- the words
@@ -24,43 +24,27 @@ unfoldable pub word_count : List ℕ → ℕ
 word_count [] = 0
 word_count (b ∷ s) = pick (eqb b 0) (1 + word_count s) (word_count s)
 
--- ---- the facts: the stand-in ones of no word, what five words say, and none of any other number of words, which is wrong as number 0
+-- ---- the facts: the stand-in ones of no word, what five words say, and none of any other number of words, which is wrong
 
-unfoldable pub command_check : List ℕ → WordsCheck
+unfoldable pub command_check : List ℕ → Result FormatFacts WrongWords
 command_check words =
-    pick (eqb (word_count words) 0) Taken
+    pick (eqb (word_count words) 0) (Ok stand_in)
     (pick (eqb (word_count words) 5) (words_check (word_at 0 words) (word_at 1 words) (word_at 2 words) (word_at 3 words) (word_at 4 words))
-    (Wrong 0))
-
-unfoldable pub command_facts : List ℕ → FormatFacts
-command_facts words =
-    pick (eqb (word_count words) 0) stand_in
-    (pick (eqb (word_count words) 5) (facts_beside (word_at 0 words) (word_at 1 words) (word_at 2 words) (word_at 3 words) (word_at 4 words))
-    no_facts)
-
-abbrev pub is_wrong : WordsCheck → Bool
-is_wrong Taken = false
-is_wrong (Wrong k) = true
+    (Err Count))
 
 -- the words are wrong, so that the input is not asked for
 unfoldable pub command_wrong : List ℕ → Bool
-command_wrong words = is_wrong (command_check words)
+command_wrong words = is_err (command_check words)
 
 -- ---- the complaints
 
-unfoldable pub complaints : List (List ℕ)
-complaints =
-    bytes "mast_layout: give no words, or five: MAGIC VERSION HASHLESS RESERVED MAXIMUM\n"
-    ∷ bytes "mast_layout: the magic is not 8 hexadecimal digits\n"
-    ∷ bytes "mast_layout: the version is not 6 hexadecimal digits\n"
-    ∷ bytes "mast_layout: the hashless mask is not 2 hexadecimal digits\n"
-    ∷ bytes "mast_layout: the reserved mask is not 2 hexadecimal digits\n"
-    ∷ bytes "mast_layout: the node maximum is not a decimal number below 2^64\n"
-    ∷ []
-
--- about word k, counted from 1, or, as number 0, about how many words there are
-unfoldable pub complaint_text : ℕ → List ℕ
-complaint_text k = get_or complaints k []
+unfoldable pub complaint_text : WrongWords → List ℕ
+complaint_text Count = bytes "mast_layout: give no words, or five: MAGIC VERSION HASHLESS RESERVED MAXIMUM\n"
+complaint_text Magic = bytes "mast_layout: the magic is not 8 hexadecimal digits\n"
+complaint_text Version = bytes "mast_layout: the version is not 6 hexadecimal digits\n"
+complaint_text Hashless = bytes "mast_layout: the hashless mask is not 2 hexadecimal digits\n"
+complaint_text Reserved = bytes "mast_layout: the reserved mask is not 2 hexadecimal digits\n"
+complaint_text Maximum = bytes "mast_layout: the node maximum is not a decimal number below 2^64\n"
 
 -- ---- what is said
 
@@ -73,17 +57,17 @@ pub record Saying : Type 0 where
   pub stream : Stream
   pub text : List ℕ
 
-abbrev pub saying_of : WordsCheck → List ℕ → Saying
-saying_of Taken answer = record { stream = output; text = answer }
-saying_of (Wrong k) answer = record { stream = error; text = complaint_text k }
-
 -- how many places the program's key table has
 abbrev pub places : ℕ
 places = 2048
 
 -- a complaint where the words are wrong; else the answer for the input, under the facts of the words
+abbrev pub saying_of : Result FormatFacts WrongWords → List ℕ → Saying
+saying_of (Ok facts) input = record { stream = output; text = answer_text facts places input }
+saying_of (Err wrong) input = record { stream = error; text = complaint_text wrong }
+
 unfoldable pub program_says : List ℕ → List ℕ → Saying
-program_says words input = saying_of (command_check words) (answer_text (command_facts words) places input)
+program_says words input = saying_of (command_check words) input
 
 -- as the program's function answers it: the stream, and how many bytes of the lent buffer
 abbrev pub said_on : Stream → ℕ → Said

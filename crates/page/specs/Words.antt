@@ -1,13 +1,11 @@
 -- Format facts from five words, each a list of bytes: magic in 8 hexadecimal digits, version in 6, hashless mask and reserved mask in 2 each, and
 -- the node maximum in decimal, below 2^64.
-use Rattle.std.specs.Prelude.{ℕ, ◌-◌, ◌^◌, List, [], ◌∷◌}
+use Rattle.std.specs.Prelude.{ℕ, ◌-◌, ◌^◌, List, [], ◌∷◌, Option, Some, None, Result, Ok, Err}
 use Rattle.wire.specs.Table.{pick}
 use Rattle.layout.specs.declared.facts.FormatFacts.{FormatFacts}
 use Rattle.text.specs.Digits.{hex_byte, hex_wrong, number_of_word}
-use Rattle.text.specs.declared.digits.NumberWord.{NumberWord}
-use Rattle.text.specs.declared.digits.NumberWord.TheVariants as number
-use Rattle.page.specs.declared.words.WordsCheck.{WordsCheck}
-use Rattle.page.specs.declared.words.WordsCheck.TheVariants.{Taken, Wrong}
+use Rattle.page.specs.declared.words.WrongWords.{WrongWords}
+use Rattle.page.specs.declared.words.WrongWords.TheVariants.{Magic, Version, Hashless, Reserved, Maximum}
 
 -- Stand-in facts, where no words are given: magic `MAST`, version 0 0 2, hashless mask 2, reserved mask 0xFC, node maximum 2^30 - 1.
 abbrev pub stand_in : FormatFacts
@@ -20,10 +18,6 @@ stand_in =
       max_nodes = 2 ^ 30 - 1;
     }
 
--- what stands beside a wrong word: no facts
-abbrev pub no_facts : FormatFacts
-no_facts = record { magic = 0 ∷ 0 ∷ 0 ∷ 0 ∷ []; version = 0 ∷ 0 ∷ 0 ∷ []; hashless = 0; reserved = 0; max_nodes = 0 }
-
 -- what the words say
 unfoldable pub facts_of : List ℕ → List ℕ → List ℕ → List ℕ → ℕ → FormatFacts
 facts_of magic version hashless reserved most =
@@ -35,28 +29,16 @@ facts_of magic version hashless reserved most =
       max_nodes = most;
     }
 
-abbrev pub maximum_check : NumberWord → WordsCheck
-maximum_check number.Wrong = Wrong 5
-maximum_check (number.Number n) = Taken
+-- a node maximum that is none is wrong
+abbrev pub with_maximum : (ℕ → FormatFacts) → Option ℕ → Result FormatFacts WrongWords
+with_maximum facts None = Err Maximum
+with_maximum facts (Some n) = Ok (facts n)
 
-abbrev pub maximum_of : NumberWord → ℕ
-maximum_of number.Wrong = 0
-maximum_of (number.Number n) = n
-
--- the first wrong word, counted from 1
-unfoldable pub words_check : List ℕ → List ℕ → List ℕ → List ℕ → List ℕ → WordsCheck
+-- the facts, or the first wrong word
+unfoldable pub words_check : List ℕ → List ℕ → List ℕ → List ℕ → List ℕ → Result FormatFacts WrongWords
 words_check magic version hashless reserved most =
-    pick (hex_wrong 8 magic) (Wrong 1)
-    (pick (hex_wrong 6 version) (Wrong 2)
-    (pick (hex_wrong 2 hashless) (Wrong 3)
-    (pick (hex_wrong 2 reserved) (Wrong 4)
-    (maximum_check (number_of_word most)))))
-
--- the facts beside an answer
-abbrev pub facts_where : WordsCheck → FormatFacts → FormatFacts
-facts_where Taken f = f
-facts_where (Wrong k) f = no_facts
-
-unfoldable pub facts_beside : List ℕ → List ℕ → List ℕ → List ℕ → List ℕ → FormatFacts
-facts_beside magic version hashless reserved most =
-    facts_where (words_check magic version hashless reserved most) (facts_of magic version hashless reserved (maximum_of (number_of_word most)))
+    pick (hex_wrong 8 magic) (Err Magic)
+    (pick (hex_wrong 6 version) (Err Version)
+    (pick (hex_wrong 2 hashless) (Err Hashless)
+    (pick (hex_wrong 2 reserved) (Err Reserved)
+    (with_maximum (facts_of magic version hashless reserved) (number_of_word most)))))

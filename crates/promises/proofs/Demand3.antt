@@ -13,29 +13,22 @@ use Prim.Native.Nat.{ℕ, ◌≤◌}
 use native.Mathlib.Omega.{arith}
 use lib.ListN.{length, take, drop, replicate, length-replicate}
 use lib.Seq.{take_at}
+use Rattle.std.specs.Prelude.{None, Result, Ok}
 use Rattle.wire.specs.Table.{accepted}
 use Rattle.wire.specs.Le.{Bytes}
-use Rattle.wire.specs.declared.units.Cursor.{Cursor}
-use Rattle.wire.proofs.Tables.{same_answer}
+use Rattle.wire.specs.declared.refusal.Refused.{Refused}
+use Rattle.wire.specs.declared.units.ByteOffset.{ByteOffset}
+use Rattle.wire.proofs.Answers.{cursor}
 use Rattle.layout.specs.Scan.{Scanned}
-use Rattle.layout.specs.Shown.{shown_scan}
 use Rattle.layout.specs.declared.facts.FormatFacts.{FormatFacts}
-use Rattle.layout.specs.declared.facts.Bound.TheVariants.{None}
 use Rattle.layout.specs.declared.forest.ForestLayout.{ForestLayout}
-use Rattle.layout.specs.declared.scan.Scan.{Scan}
-use Rattle.layout.specs.declared.scan.Scan.TheVariants as scan
-use Rattle.layout.proofs.Answers.{scan_back, scan_again}
+use Rattle.layout.specs.declared.scan.Scanned.{Scanned as Scan}
+use Rattle.layout.proofs.Answers.{scan_one}
 use Rattle.advice.specs.Walk.{key_table}
-use Rattle.advice.specs.Shown.{shown_walk}
-use Rattle.advice.specs.declared.walk.MapWalk.{MapWalk}
-use Rattle.advice.specs.declared.walk.MapWalk.TheVariants as map
-use Rattle.advice.proofs.Answers.{walk_back, walk_again}
+use Rattle.advice.specs.declared.walk.Walked.{Walked as MapWalk}
+use Rattle.advice.proofs.Answers.{walk_one}
 use Rattle.writer.specs.Parts.{SameParts, parts_shown, file_counts, EachShortest}
 use Rattle.writer.specs.Writer.{written_file, output_of, output_after}
-use Rattle.writer.specs.Shown.{shown_write}
-use Rattle.writer.specs.declared.file.ForestWrite.{ForestWrite}
-use Rattle.writer.specs.declared.file.ForestWrite.TheVariants as write
-use Rattle.writer.proofs.Answers.{write_back, write_again}
 use Rattle.layout.specs.Given.{Given}
 use Rattle.renderings.specs.Rendering.{Ends, Taken, Lengths, Rendering}
 use Rattle.renderings.proofs.Long.{none_long}
@@ -43,12 +36,10 @@ use Rattle.renderings.proofs.Rendered.{exactly}
 use Rattle.renderings.proofs.Bytes.{written_bytes}
 use Rattle.whole.proofs.Accepted.{walk_inside}
 use Rattle.renderings.proofs.Demand.{demand}
+use Rattle.promises.proofs.Terms.{one_by}
 use Rattle.promises.proofs.Calls.{Scans, Walks, Writes}
 
 -- ---- what scan and walk answer
-
-abbrev cursor : ℕ → Cursor
-cursor e = record { at = record { 0 = e } }
 
 -- scan and walk accept s, hashless allowed, no bound, a table of so many places: so many entries, and the map ends at e; and how many counts each
 -- says are long
@@ -56,25 +47,25 @@ pub record Accepts (f : FormatFacts) (places : ℕ) (s : List ℕ) (entries e : 
   pub layout : ForestLayout
   pub scan_long : ℕ
   pub walk_long : ℕ
-  pub scanned : Scans s f true None (scan.Accepted layout scan_long)
+  pub scanned : Scans s f true None (Ok (record { layout = layout; long_counts = scan_long }))
   pub table : List ℕ
   pub room : length table ≡ places
   pub after : List ℕ
-  pub walked : Walks s layout.advice_map_offset.0 table after (map.Walked entries (cursor e) walk_long)
+  pub walked : Walks s layout.advice_map_offset.0 table after (Ok (record { entries = entries; end = cursor e; long_counts = walk_long }))
 
 -- they do nothing else: whatever they answer on s is this, and that no count is long
 pub record MustAccept (f : FormatFacts) (s : List ℕ) (entries e : ℕ) : Type 0 where
-  pub scans : (r : Scan) → Scans s f true None r → (l : ForestLayout) × (r ≡ scan.Accepted l 0)
-  pub walks : (l : ForestLayout) (long : ℕ) → Scans s f true None (scan.Accepted l long) → (t₀ t : List ℕ) (r : MapWalk) → entries ≤ length t₀
-      → Walks s l.advice_map_offset.0 t₀ t r → r ≡ map.Walked entries (cursor e) 0
+  pub scans : (r : Result Scan (Refused ByteOffset)) → Scans s f true None r → (l : ForestLayout) × (r ≡ Ok (record { layout = l; long_counts = 0 }))
+  pub walks : (l : ForestLayout) (long : ℕ) → Scans s f true None (Ok (record { layout = l; long_counts = long })) → (t₀ t : List ℕ) (r : Result MapWalk (Refused ByteOffset)) → entries ≤ length t₀
+      → Walks s l.advice_map_offset.0 t₀ t r → r ≡ Ok (record { entries = entries; end = cursor e; long_counts = 0 })
 
 -- ---- the demand
 
 -- s was accepted, with so many entries; the writer answered r to its parts, and left the output o
-pub record Demand3 (f : FormatFacts) (s : List ℕ) (entries : ℕ) (o : List ℕ) (r : ForestWrite) : Type 0 where
+pub record Demand3 (f : FormatFacts) (s : List ℕ) (entries : ℕ) (o : List ℕ) (r : Result ℕ (Refused ℕ)) : Type 0 where
   -- the writer succeeds; its file is the output's first `size` bytes
   pub size : ℕ
-  pub succeeds : r ≡ write.Written size
+  pub succeeds : r ≡ Ok size
   -- it is accepted under the same facts, without a long count, and shows the same parts
   pub accepts : MustAccept f (take size o) entries size
   pub shows : SameParts (parts_shown f (take size o)) (parts_shown f s)
@@ -119,13 +110,12 @@ must f s w taken shortest =
       scans = λ r said.
           let t = taken w.entries (omega arith) in
           let none = (none_long f s w.entries w t).1 (shortest said.given.bytes) in
-          (t.layout, same_answer shown_scan scan_back scan_again _ r (scan.Accepted t.layout 0) said.answer (sym (rw none.0 at t.scanned)));
+          (t.layout, scan_one _ r (Ok _) said.answer (sym (rw none.0 at t.scanned)));
       walks = λ l long scanned t₀ t r enough said.
           let k = taken (length t₀) enough in
           let none = (none_long f s (length t₀) w k).1 (shortest scanned.given.bytes) in
           let same : k.layout ≡ l = ap (λ (x : Scanned). x.layout) (one (sym k.scanned ∙ sym scanned.answer)) in
-          same_answer shown_walk walk_back walk_again _ r (map.Walked w.entries (cursor w.end) 0) said.answer
-          (sym (rw (same, none.1) at k.walked));
+          walk_one _ r (Ok _) said.answer (sym (rw (same, none.1) at k.walked));
     }
   where
     one : {a b : Scanned} → ◌≡◌ (accepted a) (accepted b) → a ≡ b
@@ -135,7 +125,7 @@ must f s w taken shortest =
 
 -- take a file s that is accepted; whatever the writer answers to its parts, given as many bytes of room as s fills to the end of its map
 pub shortest_demanded : (f : FormatFacts) (s : List ℕ) (places entries e : ℕ) → Accepts f places s entries e
-    → (o₀ o : List ℕ) (r : ForestWrite) → e ≤ length o₀ → Writes f (parts_shown f s) o₀ o r
+    → (o₀ o : List ℕ) (r : Result ℕ (Refused ℕ)) → e ≤ length o₀ → Writes f (parts_shown f s) o₀ o r
     → Demand3 f s entries o r
 unfolding output_after taken
 shortest_demanded f s places entries e accepts o₀ o r enough writes =
@@ -151,7 +141,7 @@ shortest_demanded f s places entries e accepts o₀ o r enough writes =
     let shortest : Bytes file → EachShortest (file_counts f file) = λ bytes. (d.equal entries file ends bytes (new entries (omega arith)) shows).0 refl in
     record {
       size = length file;
-      succeeds = same_answer shown_write write_back write_again _ r (write.Written (length file)) writes.answer (sym said);
+      succeeds = one_by _ r (Ok (length file)) writes.answer (sym said);
       accepts = rw front (must f file ends new shortest);
       shows = rw front shows;
       least = λ q n x t a same. d.least q t (record { entries = n; end = x }) a.scanned.given.bytes (taken f q t n x a) same;

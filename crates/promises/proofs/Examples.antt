@@ -7,6 +7,7 @@ use mathlib.Core.Bool.{true, false}
 use mathlib.Core.List.{List, [], ◌∷◌, ◌++◌, map}
 use Prim.Native.Nat.{ℕ, ◌-◌, ◌^◌}
 use lib.Count.{count_trailing_zeros, ones, ones_in}
+use Rattle.std.specs.Prelude.{None}
 use Rattle.wire.specs.Table.{Outcome, refused, accepted, first_met, ◌>>=◌, At}
 use Rattle.wire.specs.Refusals.{SHORT, TAG, PAYLOAD}
 use Rattle.wire.specs.Le.{le, le_bytes}
@@ -28,8 +29,6 @@ use Rattle.whole.specs.Whole.{map_outcome, whole_outcome}
 use Rattle.page.specs.Page.{hashes_text, page_text}
 use Rattle.page.specs.Answer.{answer_outcome, answer_text}
 use Rattle.layout.specs.declared.facts.FormatFacts.{FormatFacts}
-use Rattle.layout.specs.declared.facts.Bound.TheVariants.{None}
-use Rattle.layout.specs.declared.forest.HashSection.TheVariants.{Absent}
 
 -- what is asked, and what is answered
 pub data Question : Type 0 where
@@ -173,7 +172,7 @@ examples =
         basic_block_len = 1;
         node_entry_offset = record { 0 = 17 };
         external_digest_offset = record { 0 = 41 };
-        node_hash_offset = Absent;
+        node_hash_offset = None;
         advice_map_offset = record { 0 = 73 };
       };
     })))

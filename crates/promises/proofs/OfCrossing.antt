@@ -2,10 +2,11 @@
 -- what they were once they have crossed and come back, and of a scan's answer the first twelve numbers are its layout: `layout_back`, `bound_back`,
 -- `scanned_back`.
 -- Assumes nothing.
-use mathlib.Core.Path.{◌≡◌, sym, ◌∙◌}
+use mathlib.Core.Path.{◌≡◌}
+use Prim.Native.Nat.{ℕ}
 use lib.ListN.{take}
+use Rattle.std.specs.Prelude.{Option}
 use Rattle.layout.specs.Scan.{Scanned}
-use Rattle.layout.specs.declared.facts.Bound.{Bound}
 use Rattle.layout.specs.declared.forest.ForestLayout.{ForestLayout}
 use Rattle.crossing.specs.Arrays.{layout_of, bound_of, layout_row, scanned_row, bound_row}
 use Rattle.crossing.proofs.Arrays as laws
@@ -16,7 +17,7 @@ use Rattle.crossing.proofs.scanned_row.Reads as scanned_row_call
 use Rattle.crossing.proofs.bound_of.Reads as bound_of
 use Rattle.crossing.proofs.bound_row.Reads as bound_row_call
 use Rattle.crossing.proofs.entry_row.Reads as entry_row
-use Rattle.promises.proofs.Terms.{Answers, answers}
+use Rattle.promises.proofs.Terms.{Answers, answers, one_value}
 
 pub record Crossing : Type 0 where
   pub facts_of_answers : Answers facts_of.Pre facts_of.Post
@@ -28,18 +29,18 @@ pub record Crossing : Type 0 where
   pub entry_row_answers : Answers entry_row.Pre entry_row.Post
   pub layout_back : (l : ForestLayout) → layout_of (layout_row l) ≡ l
   pub scanned_back : (x : Scanned) → layout_of (take 12 (scanned_row x)) ≡ x.layout
-  pub bound_back : (b : Bound) → bound_of (bound_row b) ≡ b
+  pub bound_back : (b : Option ℕ) → bound_of (bound_row b) ≡ b
 
 pub crossing : Crossing
 crossing =
     record {
-      facts_of_answers = answers (λ κs a. tt) (λ κs a r r' e e' p p'. p ∙ sym p');
-      layout_of_answers = answers (λ κs a. tt) (λ κs a r r' e e' p p'. p ∙ sym p');
-      layout_row_answers = answers (λ κs a. tt) (λ κs a r r' e e' p p'. p ∙ sym p');
-      scanned_row_answers = answers (λ κs a. tt) (λ κs a r r' e e' p p'. p ∙ sym p');
-      bound_of_answers = answers (λ κs a. tt) (λ κs a r r' e e' p p'. p ∙ sym p');
-      bound_row_answers = answers (λ κs a. tt) (λ κs a r r' e e' p p'. p ∙ sym p');
-      entry_row_answers = answers (λ κs a. tt) (λ κs a r r' e e' p p'. p ∙ sym p');
+      facts_of_answers = answers (λ κs a. tt) (one_value (λ κs a r e p. p));
+      layout_of_answers = answers (λ κs a. tt) (one_value (λ κs a r e p. p));
+      layout_row_answers = answers (λ κs a. tt) (one_value (λ κs a r e p. p));
+      scanned_row_answers = answers (λ κs a. tt) (one_value (λ κs a r e p. p));
+      bound_of_answers = answers (λ κs a. tt) (one_value (λ κs a r e p. p));
+      bound_row_answers = answers (λ κs a. tt) (one_value (λ κs a r e p. p));
+      entry_row_answers = answers (λ κs a. tt) (one_value (λ κs a r e p. p));
       layout_back = laws.layout_back;
       scanned_back = laws.scanned_back;
       bound_back = laws.bound_back;

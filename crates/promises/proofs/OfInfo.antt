@@ -1,10 +1,9 @@
 -- The public functions of info. Each asks nothing of its caller, and its promise allows one result (`Answers`); where it is lent memory that it
 -- may write to, one content (`Leaves`), and what a refusal leaves there is said.
 -- Assumes nothing.
-use mathlib.Core.Path.{sym, ◌∙◌}
 use Rattle.wire.proofs.Tables.{same_answer}
-use Rattle.info.specs.Shown.{shown_decoded, shown_encoded, shown_entry, shown_children, shown_made}
-use Rattle.info.proofs.Answers.{decoded_back, decoded_again, encoded_back, encoded_again, entry_back, entry_again, children_back, children_again, made_back, made_again}
+use Rattle.info.specs.Shown.{shown_children, shown_class}
+use Rattle.info.proofs.Answers.{children_back, children_again, class_back, class_again}
 use Rattle.info.proofs.decode_entry.Reads as decode_entry
 use Rattle.info.proofs.encode_entry.Reads as encode_entry
 use Rattle.info.proofs.read_entry.Reads as read_entry
@@ -14,7 +13,7 @@ use Rattle.info.proofs.node.is_external.Reads as is_external
 use Rattle.info.proofs.node.class_of.Reads as class_of
 use Rattle.info.proofs.node.children_of.Reads as children_of
 use Rattle.info.proofs.node.make_entry.Reads as make_entry
-use Rattle.promises.proofs.Terms.{Answers, answers}
+use Rattle.promises.proofs.Terms.{Answers, answers, one_value, one_shown, one_by, one_in, one_read}
 
 pub record Info : Type 0 where
   pub decode_entry_answers : Answers decode_entry.Pre decode_entry.Post
@@ -30,13 +29,13 @@ pub record Info : Type 0 where
 pub info : Info
 info =
     record {
-      decode_entry_answers = answers (λ κs a. tt) (λ κs a r r' e e' p p'. same_answer shown_decoded decoded_back decoded_again _ r r' p p');
-      encode_entry_answers = answers (λ κs a. tt) (λ κs a r r' e e' p p'. same_answer shown_encoded encoded_back encoded_again _ r r' p p');
-      read_entry_answers = answers (λ κs a. tt) (λ κs a r r' e e' p p'. same_answer shown_entry entry_back entry_again _ r r' p p');
-      canonical_word_answers = answers (λ κs a. tt) (λ κs a r r' e e' p p'. p ∙ sym p');
-      kind_of_answers = answers (λ κs a. tt) (λ κs a r r' e e' p p'. p ∙ sym p');
-      is_external_answers = answers (λ κs a. tt) (λ κs a r r' e e' p p'. p ∙ sym p');
-      class_of_answers = answers (λ κs a. tt) (λ κs a r r' e e' p p'. p ∙ sym p');
-      children_of_answers = answers (λ κs a. tt) (λ κs a r r' e e' p p'. same_answer shown_children children_back children_again _ r r' p p');
-      make_entry_answers = answers (λ κs a. tt) (λ κs a r r' e e' p p'. same_answer shown_made made_back made_again _ r r' p p');
+      decode_entry_answers = answers (λ κs a. tt) (one_shown one_in (λ κs a r e p. p));
+      encode_entry_answers = answers (λ κs a. tt) (one_shown one_in (λ κs a r e p. p));
+      read_entry_answers = answers (λ κs a. tt) (one_shown one_read (λ κs a r e p. p));
+      canonical_word_answers = answers (λ κs a. tt) (one_value (λ κs a r e p. p));
+      kind_of_answers = answers (λ κs a. tt) (one_value (λ κs a r e p. p));
+      is_external_answers = answers (λ κs a. tt) (one_value (λ κs a r e p. p));
+      class_of_answers = answers (λ κs a. tt) (one_shown (same_answer shown_class class_back class_again) (λ κs a r e p. p));
+      children_of_answers = answers (λ κs a. tt) (one_shown (same_answer shown_children children_back children_again) (λ κs a r e p. p));
+      make_entry_answers = answers (λ κs a. tt) (one_shown one_by (λ κs a r e p. p));
     }

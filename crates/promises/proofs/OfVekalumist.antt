@@ -2,26 +2,16 @@
 -- outcome (`Crosses`): after a refusal the number and the place are the refusal's and the answer is as it was; after an acceptance the number is 0,
 -- the answer is the outcome's, and the place is as it was. Other memory that it is lent is one too (`Leaves`), and as it was where the outcome is
 -- refused, but for the walk's key table, which is zeroed. Assumes nothing.
-use mathlib.Core.Path.{◌≡◌, refl, sym, ap, ◌∙◌}
-use mathlib.Core.Bool.{Bool, true, false}
+use mathlib.Core.Path.{◌≡◌, refl, ap, ◌∙◌}
 use mathlib.Core.List.{List}
-use Prim.Native.Nat.{ℕ, ◌+◌}
+use Prim.Native.Nat.{ℕ}
 use lib.ListN.{length, replicate}
-use lib.Seq.{sets}
-use Rattle.wire.specs.Table.{Outcome, refused, accepted, pick, first_met}
-use Rattle.wire.specs.Refusals.{ROOM}
-use Rattle.wire.specs.Counts.{shortest_len, count_bytes, no_room, write_outcome as count_written_call, with_count}
-use Rattle.layout.specs.declared.facts.Bound.{Bound}
-use Rattle.resolved.specs.Nodes.{external_node}
-use Rattle.resolved.specs.Slots.{slots_of, filled, slots_outcome, table_after}
-use Rattle.advice.specs.Walk.{first_entry, Walked, table_of, walk_outcome, key_table}
+use Rattle.wire.specs.Table.{Outcome, refused, accepted}
+use Rattle.wire.specs.Counts.{write_outcome as count_written_call}
 use Rattle.advice.specs.Table.{key_outcome}
-use Rattle.writer.specs.Parts.{Parts}
-use Rattle.writer.specs.Writer.{output_of, output_after}
 use Rattle.writer.specs.Shown.{lent}
-use Rattle.crossing.specs.Arrays.{layout_of, bound_of, bound_row}
-use Rattle.vekalumist.specs.Answers.{number_in, answered, placed, laid, walked_row}
-use Rattle.vekalumist.specs.Calls.{count_call, decode_call, encode_call, flags_call, scan_call, root_call, entry_call, children_call, order_call, strict_call, digest_call, digest_table_call, slots_call, slots_after, walk_call, map_entry_call, lookup_call, values_call, write_call, write_after}
+use Rattle.vekalumist.specs.Answers.{number_in, answered, placed, laid}
+use Rattle.vekalumist.specs.Calls.{count_call, decode_call, encode_call, flags_call, scan_call, root_call, entry_call, children_call, order_call, strict_call, digest_call, digest_table_call, slots_call, walk_call, map_entry_call, lookup_call, values_call, write_call}
 use Rattle.vekalumist.proofs.Told.{Tells}
 use Rattle.vekalumist.proofs.counts.veka_raw_read_count.Reads as veka_raw_read_count
 use Rattle.vekalumist.proofs.counts.veka_raw_write_count.Reads as veka_raw_write_count
@@ -46,7 +36,11 @@ use Rattle.vekalumist.proofs.write.veka_raw_write.Reads as veka_raw_write
 use Rattle.vekalumist.proofs.veka_version.Reads as veka_version
 use Rattle.vekalumist.proofs.counts.veka_shortest_len.Reads as veka_shortest_len
 use Rattle.vekalumist.proofs.map.veka_raw_places.Reads as veka_raw_places
-use Rattle.promises.proofs.Terms.{AsksNothing, Answers, answers, Leaves}
+use Rattle.promises.proofs.Terms.{AsksNothing, Answers, answers, Leaves, one_value, one_held}
+use Rattle.promises.proofs.OfWire.{count_left}
+use Rattle.promises.proofs.OfAdvice.{walk_left}
+use Rattle.promises.proofs.OfResolved.{slots_left}
+use Rattle.promises.proofs.OfWriter.{write_left}
 
 -- Nothing is asked; the number, the answer and the place are one; and they are what the outcome tells. `before` and `from` are the answer and the place
 -- as they were lent, `after` and `to` as they are left.
@@ -70,42 +64,19 @@ crosses :
 unfolding number_in answered placed
 crosses {before = before} {from = from} asks tells =
     record {
-      answers_one = answers asks (λ κs a r r' e e' p p'. (tells κs a r e p).0 ∙ sym (tells κs a r' e' p').0);
-      answer_one = λ κs a r r' e e' p p'. (tells κs a r e p).1.0 ∙ sym (tells κs a r' e' p').1.0;
-      place_one = λ κs a r r' e e' p p'. (tells κs a r e p).1.1 ∙ sym (tells κs a r' e' p').1.1;
+      answers_one = answers asks (one_value (λ κs a r e p. (tells κs a r e p).0));
+      answer_one = one_held (λ κs a r e p. (tells κs a r e p).1.0);
+      place_one = one_held (λ κs a r e p. (tells κs a r e p).1.1);
       refused_so = λ κs a r e p n q h. let t = tells κs a r e p in (t.0 ∙ ap number_in h, (t.1.0 ∙ ap (answered (before κs a)) h, t.1.1 ∙ ap (placed (from κs a)) h));
       accepted_so = λ κs a r e p v h. let t = tells κs a r e p in (t.0 ∙ ap number_in h, (t.1.0 ∙ ap (answered (before κs a)) h, t.1.1 ∙ ap (placed (from κs a)) h));
     }
 
 -- ---- what a refusal leaves in other memory
 
-count_left : (bytes : List ℕ) (at value n q : ℕ) → count_written_call bytes at value ≡ refused n q → with_count bytes at value ≡ bytes
-unfolding count_written_call first_met with_count
-count_left bytes at value n q h = go (no_room (length bytes) at value) h
-  where
-    go : (b : Bool) → pick b (refused ROOM at) (accepted (at + shortest_len value)) ≡ refused n q → pick b bytes (sets bytes at (count_bytes value)) ≡ bytes
-    go true k = refl
-    go false k = cc
-
-walk_left : (s : List ℕ) (at : ℕ) (keys : List ℕ) (n q : ℕ) → walk_call (length keys) s at ≡ refused n q → key_table s at keys ≡ replicate (length keys) 0
-unfolding key_table
-walk_left s at keys n q h = go (walk_outcome (length keys) s at) h
-  where
-    go : (o : Outcome Walked) → laid (walked_row s) o ≡ refused n q → table_of s (first_entry s at) keys o ≡ replicate (length keys) 0
-    go (refused m k) e = refl
-    go (accepted w) e = cc
-
-slots_left : (s layout bound table : List ℕ) (n q : ℕ) → slots_call s layout bound (length table) ≡ refused n q → slots_after s layout bound table ≡ table
-unfolding table_after
-slots_left s layout bound table n q h = go (slots_outcome s (layout_of layout) (bound_of bound) (length table)) h
-  where
-    go : (o : Outcome Bound) → laid bound_row o ≡ refused n q → filled o (slots_of (external_node s (layout_of layout)) (layout_of layout).node_count) table ≡ table
-    go (refused m k) e = refl
-    go (accepted w) e = cc
-
-write_left : (marks : List ℕ) (most : ℕ) (parts : Parts) (out : List ℕ) (n q : ℕ) → write_call marks most parts (length out) ≡ refused n q → write_after marks most parts out ≡ out
-unfolding output_after
-write_left marks most parts out n q h = ap (output_of _ out) h
+-- an array tells of a refusal what its outcome does
+laid_refused : {A : Type 0} (row : A → List ℕ) (o : Outcome A) (n q : ℕ) → laid row o ≡ refused n q → o ≡ refused n q
+laid_refused row (refused m k) n q h = cc
+laid_refused row (accepted v) n q h = cc
 
 pub record Vekalumist : Type 0 where
   pub veka_raw_read_count_crosses : Crosses veka_raw_read_count.Pre veka_raw_read_count.Post (λ κs a. count_call a.0.now a.1.0) (λ κs a. a.1.1.0.now) (λ κs e. e.1.1.0.now) (λ κs a. a.1.1.1.0.now) (λ κs e. e.1.1.1.0.now)
@@ -145,8 +116,8 @@ vekalumist =
     record {
       veka_raw_read_count_crosses = crosses (λ κs a. tt) (λ κs a r e p. p);
       veka_raw_write_count_crosses = crosses (λ κs a. tt) (λ κs a r e p. (p.0, (p.1.0, p.1.1.0)));
-      veka_raw_write_count_leaves = λ κs a r r' e e' p p'. p.1.1.1 ∙ sym p'.1.1.1;
-      veka_raw_write_count_refused = λ κs a r e p n q h. p.1.1.1 ∙ count_left a.0.now a.1.0 a.1.1.0 n q h;
+      veka_raw_write_count_leaves = one_held (λ κs a r e p. p.1.1.1);
+      veka_raw_write_count_refused = λ κs a r e p n q h. p.1.1.1 ∙ count_left _ _ _ n q h;
       veka_decode_entry_crosses = crosses (λ κs a. tt) (λ κs a r e p. p);
       veka_encode_entry_crosses = crosses (λ κs a. tt) (λ κs a r e p. p);
       veka_raw_flags_crosses = crosses (λ κs a. tt) (λ κs a r e p. p);
@@ -159,19 +130,19 @@ vekalumist =
       veka_raw_digest_crosses = crosses (λ κs a. tt) (λ κs a r e p. p);
       veka_raw_digest_with_table_crosses = crosses (λ κs a. tt) (λ κs a r e p. p);
       veka_raw_slots_crosses = crosses (λ κs a. tt) (λ κs a r e p. (p.0, (p.1.0, p.1.1.0)));
-      veka_raw_slots_leaves = λ κs a r r' e e' p p'. p.1.1.1 ∙ sym p'.1.1.1;
-      veka_raw_slots_refused = λ κs a r e p n q h. p.1.1.1 ∙ slots_left a.0.now a.1.0.now a.1.1.0.now a.1.1.1.0.now n q h;
+      veka_raw_slots_leaves = one_held (λ κs a r e p. p.1.1.1);
+      veka_raw_slots_refused = λ κs a r e p n q h. p.1.1.1 ∙ slots_left _ _ _ _ n q (laid_refused _ _ n q h);
       veka_raw_walk_crosses = crosses (λ κs a. tt) (λ κs a r e p. (p.0, (p.1.0, p.1.1.0)));
-      veka_raw_walk_leaves = λ κs a r r' e e' p p'. p.1.1.1 ∙ sym p'.1.1.1;
-      veka_raw_walk_refused = λ κs a r e p n q h. p.1.1.1 ∙ walk_left a.0.now a.1.0 a.1.1.0.now n q h;
+      veka_raw_walk_leaves = one_held (λ κs a r e p. p.1.1.1);
+      veka_raw_walk_refused = λ κs a r e p n q h. p.1.1.1 ∙ walk_left _ _ _ n q (laid_refused _ _ n q h);
       veka_raw_key_crosses = crosses (λ κs a. tt) (λ κs a r e p. p);
       veka_raw_map_entry_crosses = crosses (λ κs a. tt) (λ κs a r e p. p);
       veka_raw_lookup_crosses = crosses (λ κs a. tt) (λ κs a r e p. p);
       veka_raw_values_crosses = crosses (λ κs a. tt) (λ κs a r e p. p);
       veka_raw_write_crosses = crosses (λ κs a. tt) (λ κs a r e p. (p.0, (p.1.0, p.1.1.0)));
-      veka_raw_write_leaves = λ κs a r r' e e' p p'. p.1.1.1 ∙ sym p'.1.1.1;
-      veka_raw_write_refused = λ κs a r e p n q h. p.1.1.1 ∙ write_left a.0.now a.1.0 (lent a.1.1.0 a.1.1.1.0.now a.1.1.1.1.0.now a.1.1.1.1.1.0.now a.1.1.1.1.1.1.0.now a.1.1.1.1.1.1.1.0.now a.1.1.1.1.1.1.1.1.0.now a.1.1.1.1.1.1.1.1.1.0.now a.1.1.1.1.1.1.1.1.1.1.0.now) a.1.1.1.1.1.1.1.1.1.1.1.1.0.now n q h;
-      veka_version_answers = answers (λ κs a. tt) (λ κs a r r' e e' p p'. p ∙ sym p');
-      veka_shortest_len_answers = answers (λ κs a. tt) (λ κs a r r' e e' p p'. p ∙ sym p');
-      veka_raw_places_answers = answers (λ κs a. tt) (λ κs a r r' e e' p p'. p ∙ sym p');
+      veka_raw_write_leaves = one_held (λ κs a r e p. p.1.1.1);
+      veka_raw_write_refused = λ κs a r e p n q h. p.1.1.1 ∙ write_left _ _ _ n q h;
+      veka_version_answers = answers (λ κs a. tt) (one_value (λ κs a r e p. p));
+      veka_shortest_len_answers = answers (λ κs a. tt) (one_value (λ κs a r e p. p));
+      veka_raw_places_answers = answers (λ κs a. tt) (one_value (λ κs a r e p. p));
     }

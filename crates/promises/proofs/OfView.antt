@@ -3,7 +3,7 @@
 -- Assumes nothing.
 use mathlib.Core.Path.{◌≡◌, sym, ◌∙◌}
 use seplogic.Ra.Ura.{Ura}
-use base.Logic.{SProp, ent, emp, sep, via, mono_l, mono_r, id⊢}
+use base.Logic.{SProp, ent, emp, sep, id⊢}
 use prog.Memory.{Memory}
 use prog.Routine.{Routine}
 use types.Logic.{Logic}
@@ -12,20 +12,14 @@ use contract.Monad.{Fun, fact, fact_mono}
 use denote.Triple.Clauses.{Ended, Clauses, AtExit}
 use denote.Triple.Entry.{Args, Res}
 use denote.Triple.Walked.{needs}
-use Rattle.wire.proofs.Tables.{same_answer}
-use Rattle.rows.specs.Shown.{shown_row}
-use Rattle.rows.proofs.Answers.{row_back, row_again}
-use Rattle.layout.specs.Shown.{shown_root}
-use Rattle.layout.proofs.Answers.{root_back, root_again}
-use Rattle.resolved.proofs.Answers.{digest_one}
-use Rattle.view.specs.contracts.view_of as v_view_of
-use Rattle.view.specs.contracts.root as v_root
-use Rattle.view.specs.contracts.entry as v_entry
-use Rattle.view.specs.contracts.digest as v_digest
+use Rattle.view.specs.contracts.ForestView.new as v_new
+use Rattle.view.specs.contracts.ForestView.root as v_root
+use Rattle.view.specs.contracts.ForestView.entry as v_entry
+use Rattle.view.specs.contracts.ForestView.digest as v_digest
 use Rattle.view.proofs.root_in.Reads as root_in
 use Rattle.view.proofs.entry_in.Reads as entry_in
 use Rattle.view.proofs.digest_in.Reads as digest_in
-use Rattle.promises.proofs.Terms.{Answers, answers}
+use Rattle.promises.proofs.Terms.{Answers, answers, one_shown, one_by}
 
 -- nothing is asked, and what the clauses say of r beside what they say of r' gives that r and r' are equal
 pub record AnswersIn (T : Ended) (clauses : (M : Type 1) (𝓤 : Ura M) → (𝓛 : Logic 𝓤) → (Memory → SProp 𝓤) → (Routine → Fun 𝓤) → Clauses 𝓤 T) : Type 2 where
@@ -40,14 +34,8 @@ module _ {M : Type 1} (𝓤 : Ura M) where
   both : (φ ψ χ : Type 0) → (φ → ψ → χ) → ent 𝓤 (sep 𝓤 (fact 𝓤 φ) (fact 𝓤 ψ)) (fact 𝓤 χ)
   both φ ψ χ h = needs 𝓤 ψ (fact 𝓤 φ) (λ y. fact_mono 𝓤 φ χ (λ x. h x y))
 
-  -- and two pairs of them
-  pairs : (φ φ' ψ ψ' χ : Type 0) → (φ × φ' → ψ × ψ' → χ) → ent 𝓤 (sep 𝓤 (sep 𝓤 (fact 𝓤 φ) (fact 𝓤 φ')) (sep 𝓤 (fact 𝓤 ψ) (fact 𝓤 ψ'))) (fact 𝓤 χ)
-  pairs φ φ' ψ ψ' χ h =
-      via 𝓤 (sep 𝓤 (fact 𝓤 (φ × φ')) (sep 𝓤 (fact 𝓤 ψ) (fact 𝓤 ψ'))) (mono_l 𝓤 (sep 𝓤 (fact 𝓤 ψ) (fact 𝓤 ψ')) (both φ φ' (φ × φ') (λ x x'. (x, x'))))
-      (via 𝓤 (sep 𝓤 (fact 𝓤 (φ × φ')) (fact 𝓤 (ψ × ψ'))) (mono_r 𝓤 (fact 𝓤 (φ × φ')) (both ψ ψ' (ψ × ψ') (λ y y'. (y, y')))) (both (φ × φ') (ψ × ψ') χ h))
-
 pub record View : Type 2 where
-  pub view_of_answers : AnswersIn v_view_of.ended (λ M 𝓤. v_view_of.clauses {M = M} {𝓤 = 𝓤})
+  pub new_answers : AnswersIn v_new.ended (λ M 𝓤. v_new.clauses {M = M} {𝓤 = 𝓤})
   pub root_answers : AnswersIn v_root.ended (λ M 𝓤. v_root.clauses {M = M} {𝓤 = 𝓤})
   pub entry_answers : AnswersIn v_entry.ended (λ M 𝓤. v_entry.clauses {M = M} {𝓤 = 𝓤})
   pub digest_answers : AnswersIn v_digest.ended (λ M 𝓤. v_digest.clauses {M = M} {𝓤 = 𝓤})
@@ -58,7 +46,7 @@ pub record View : Type 2 where
 pub view : View
 view =
     record {
-      view_of_answers =
+      new_answers =
           record {
             asks = λ M 𝓤 𝓛 mem run κs a g. id⊢ 𝓤 (emp 𝓤);
             one = λ M 𝓤 𝓛 mem run κs a g r r' e e'. both 𝓤 _ _ _ (λ p p' j. record { bytes = (p.0 ∙ sym p'.0) j; layout = (p.1 ∙ sym p'.1) j });
@@ -66,20 +54,19 @@ view =
       root_answers =
           record {
             asks = λ M 𝓤 𝓛 mem run κs a g. id⊢ 𝓤 (emp 𝓤);
-            one = λ M 𝓤 𝓛 mem run κs a g r r' e e'. both 𝓤 _ _ _ (same_answer shown_root root_back root_again _ r r');
+            one = λ M 𝓤 𝓛 mem run κs a g r r' e e'. both 𝓤 _ _ _ (one_by _ r r');
           };
       entry_answers =
           record {
             asks = λ M 𝓤 𝓛 mem run κs a g. id⊢ 𝓤 (emp 𝓤);
-            one = λ M 𝓤 𝓛 mem run κs a g r r' e e'. both 𝓤 _ _ _ (same_answer shown_row row_back row_again _ r r');
+            one = λ M 𝓤 𝓛 mem run κs a g r r' e e'. both 𝓤 _ _ _ (one_by _ r r');
           };
-      -- the word beside the answer too
       digest_answers =
           record {
             asks = λ M 𝓤 𝓛 mem run κs a g. id⊢ 𝓤 (emp 𝓤);
-            one = λ M 𝓤 𝓛 mem run κs a g r r' e e'. pairs 𝓤 _ _ _ _ _ (digest_one _ r r');
+            one = λ M 𝓤 𝓛 mem run κs a g r r' e e'. both 𝓤 _ _ _ (one_by _ r r');
           };
-      root_in_answers = answers (λ κs a. tt) (λ κs a r r' e e' p p'. same_answer shown_root root_back root_again _ r r' p p');
-      entry_in_answers = answers (λ κs a. tt) (λ κs a r r' e e' p p'. same_answer shown_row row_back row_again _ r r' p p');
-      digest_in_answers = answers (λ κs a. tt) (λ κs a r r' e e' p p'. digest_one _ r r' p p');
+      root_in_answers = answers (λ κs a. tt) (one_shown one_by (λ κs a r e p. p));
+      entry_in_answers = answers (λ κs a. tt) (one_shown one_by (λ κs a r e p. p));
+      digest_in_answers = answers (λ κs a. tt) (one_shown one_by (λ κs a r e p. p));
     }

@@ -11,11 +11,11 @@ use native.Mathlib.Omega.{arith}
 use borrow.Author.Tests.{eqb-true, eqb-false, eq-eqb, ne_eqb, ltb-false}
 use lib.Dec.{eqb}
 use lib.ListN.{length, get_or}
+use Rattle.std.specs.Prelude.{Option, Ok}
 use Rattle.wire.specs.Table.{accepted, At}
 use Rattle.wire.specs.Le.{Bytes}
 use Rattle.wire.specs.Counts.{shortest_len, long_ones, count_length, counted, count_rule, count_outcome, Form}
 use Rattle.wire.specs.declared.count.Count.{Count}
-use Rattle.wire.specs.declared.count.CountRead.TheVariants as read
 use Rattle.wire.specs.declared.units.ByteOffset.{ByteOffset}
 use Rattle.wire.specs.declared.units.Cursor.{Cursor}
 use Rattle.wire.proofs.Tables.{accepted_none}
@@ -23,15 +23,11 @@ use Rattle.wire.proofs.Counts.{lt_or_ge, shortest_form}
 use Rattle.wire.proofs.Forms.{form_of_read, shortest_least, long_exactly}
 use Rattle.layout.specs.Scan.{Scanned, head_counts, map_at}
 use Rattle.layout.specs.declared.facts.FormatFacts.{FormatFacts}
-use Rattle.layout.specs.declared.facts.Bound.{Bound}
 use Rattle.layout.specs.declared.forest.ForestLayout.{ForestLayout}
-use Rattle.layout.specs.declared.scan.Scan.TheVariants.{Accepted}
 use Rattle.advice.specs.Walk.{Walked, walked, map_counts}
-use Rattle.advice.specs.declared.walk.MapWalk.TheVariants as map
 use Rattle.advice.proofs.Accepts.{walk_accepts}
 use Rattle.writer.specs.Parts.{file_counts, EachShortest}
 use Rattle.whole.specs.Whole.{Sheet, whole_outcome}
-use Rattle.whole.specs.declared.WholeRead.TheVariants.{Whole}
 use Rattle.whole.proofs.WholeLaws.{whole_accepts}
 use Rattle.whole.proofs.Accepted.{scanned_unmet}
 use Rattle.renderings.proofs.Long as laws
@@ -56,15 +52,15 @@ pub record FileTold (f : FormatFacts) (s : List ℕ) (scan walk : ℕ) : Type 0 
   pub none : ((scan ≡ 0) × (walk ≡ 0)) ↔ EachShortest (file_counts f s)
 
 pub record Request2 : Type 0 where
-  pub count : (s : List ℕ) (at : ℕ) (c : Count) (next : Cursor) → Bytes s → ReadsCount s at (read.Whole c next) → CountTold c × (next.at.0 ≡ at + c.len)
+  pub count : (s : List ℕ) (at : ℕ) (c : Count) (next : Cursor) → Bytes s → ReadsCount s at (Ok (c, next)) → CountTold c × (next.at.0 ≡ at + c.len)
   -- of the four counts before the map (`head_counts`), and of the map's (`map_counts`)
-  pub scan : (s : List ℕ) (f : FormatFacts) (allow : Bool) (bound : Bound) (l : ForestLayout) (n : ℕ) → Scans s f allow bound (Accepted l n) → n ≡ long_ones (head_counts f s)
-  pub walk : (s : List ℕ) (at : ℕ) (t₀ t : List ℕ) (entries : ℕ) (c : Cursor) (n : ℕ) → Walks s at t₀ t (map.Walked entries c n) → n ≡ long_ones (map_counts s at)
-  pub file : (s : List ℕ) (f : FormatFacts) (allow : Bool) (bound : Bound) (l : ForestLayout) (n : ℕ) → Scans s f allow bound (Accepted l n)
-      → (t₀ t : List ℕ) (entries : ℕ) (c : Cursor) (k : ℕ) → Walks s l.advice_map_offset.0 t₀ t (map.Walked entries c k) → FileTold f s n k
+  pub scan : (s : List ℕ) (f : FormatFacts) (allow : Bool) (bound : Option ℕ) (l : ForestLayout) (n : ℕ) → Scans s f allow bound (Ok (record { layout = l; long_counts = n })) → n ≡ long_ones (head_counts f s)
+  pub walk : (s : List ℕ) (at : ℕ) (t₀ t : List ℕ) (entries : ℕ) (c : Cursor) (n : ℕ) → Walks s at t₀ t (Ok (record { entries = entries; end = c; long_counts = n })) → n ≡ long_ones (map_counts s at)
+  pub file : (s : List ℕ) (f : FormatFacts) (allow : Bool) (bound : Option ℕ) (l : ForestLayout) (n : ℕ) → Scans s f allow bound (Ok (record { layout = l; long_counts = n }))
+      → (t₀ t : List ℕ) (entries : ℕ) (c : Cursor) (k : ℕ) → Walks s l.advice_map_offset.0 t₀ t (Ok (record { entries = entries; end = c; long_counts = k })) → FileTold f s n k
   -- both in a row give the sum
-  pub whole : (s : List ℕ) (f : FormatFacts) (allow : Bool) (bound : Bound) (places : ℕ) (l : ForestLayout) (entries : ℕ) (end : ByteOffset) (n : ℕ)
-      → ReadsWhole s f allow bound places (Whole l entries end n) → n ≡ long_ones (file_counts f s)
+  pub whole : (s : List ℕ) (f : FormatFacts) (allow : Bool) (bound : Option ℕ) (places : ℕ) (l : ForestLayout) (entries : ℕ) (end : ByteOffset) (n : ℕ)
+      → ReadsWhole s f allow bound places (Ok (record { layout = l; entries = entries; end = end; long_counts = n })) → n ≡ long_ones (file_counts f s)
   -- for packers: a file that both accept, hashless allowed and no bound, is the shortest of its parts exactly if both say that no count is long
   pub shortest : (f : FormatFacts) (places : ℕ) (s : List ℕ) (entries e : ℕ) (a : Accepts f places s entries e) → Shortest f s e ↔ ((a.scan_long ≡ 0) × (a.walk_long ≡ 0))
 
@@ -94,7 +90,7 @@ module _ (s : List ℕ) (at : ℕ) (bytes : Bytes s) where
   unfolding counted
   told_at h = flag_told (counted s at) (form_of_read s at (count_length (get_or s at 0)) bytes refl h).form refl
 
-  count_told : (c : Count) (next : Cursor) → ReadsCount s at (read.Whole c next) → CountTold c × (next.at.0 ≡ at + c.len)
+  count_told : (c : Count) (next : Cursor) → ReadsCount s at (Ok (c, next)) → CountTold c × (next.at.0 ≡ at + c.len)
   unfolding count_outcome
   count_told c next said =
       let k = accepted_none (count_rule s at ∷ []) (record { value = counted s at; next = at + (counted s at).len }) (record { value = c; next = next.at.0 }) (sym said) in
@@ -107,7 +103,7 @@ module _ (s : List ℕ) (at : ℕ) (bytes : Bytes s) where
 file_told : (s : List ℕ) (f : FormatFacts) (scan walk : ℕ) → scan ≡ long_ones (head_counts f s) → walk ≡ long_ones (map_counts s (map_at f s)) → FileTold f s scan walk
 file_told s f scan walk scanned walked = record { sum = laws.long_sum f s scan walk scanned walked; none = laws.none_of_both f s scan walk scanned walked }
 
-whole_told : (f : FormatFacts) (allow : Bool) (bound : Bound) (places : ℕ) (s : List ℕ) (a : Sheet) → whole_outcome f allow bound places s ≡ accepted a → a.long ≡ long_ones (file_counts f s)
+whole_told : (f : FormatFacts) (allow : Bool) (bound : Option ℕ) (places : ℕ) (s : List ℕ) (a : Sheet) → whole_outcome f allow bound places s ≡ accepted a → a.long ≡ long_ones (file_counts f s)
 whole_told f allow bound places s a e =
     let both = (whole_accepts f allow bound places s a).0 e in
     let shown = (scanned_unmet f s allow bound both.scan both.scanned).1 in
@@ -122,12 +118,12 @@ pub long_counts : Request2
 long_counts =
     record {
       count = λ s at c next bytes said. count_told s at bytes c next said;
-      scan = λ s f allow bound l n scans. of_scan.long_counted s f allow bound (Accepted l n) scans l n refl;
-      walk = λ s at t₀ t entries c n walks. of_map.long_counted s at t₀ t (map.Walked entries c n) walks entries c n refl;
+      scan = λ s f allow bound l n scans. of_scan.long_counted s f allow bound (Ok (record { layout = l; long_counts = n })) scans l n refl;
+      walk = λ s at t₀ t entries c n walks. of_map.long_counted s at t₀ t (Ok (record { entries = entries; end = c; long_counts = n })) walks entries c n refl;
       file = λ s f allow bound l n scans t₀ t entries c k walks.
-          file_told s f n k (of_scan.long_counted s f allow bound (Accepted l n) scans l n refl)
-          (rw (of_scan.map_placed s f allow bound (Accepted l n) scans l n refl)
-          (of_map.long_counted s l.advice_map_offset.0 t₀ t (map.Walked entries c k) walks entries c k refl));
+          file_told s f n k (of_scan.long_counted s f allow bound (Ok (record { layout = l; long_counts = n })) scans l n refl)
+          (rw (of_scan.map_placed s f allow bound (Ok (record { layout = l; long_counts = n })) scans l n refl)
+          (of_map.long_counted s l.advice_map_offset.0 t₀ t (Ok (record { entries = entries; end = c; long_counts = k })) walks entries c k refl));
       whole = λ s f allow bound places l entries end n reads. whole_told f allow bound places s (record { layout = l; entries = entries; end = end.0; long = n }) (sym reads);
       shortest = shortest_told;
     }

@@ -9,12 +9,16 @@ use Prim.Native.Nat.{ℕ, ◌+◌, ◌/◌, ◌^◌, ◌≤◌, ◌<◌}
 use native.Mathlib.Omega.{arith}
 use lib.Count.{count_trailing_zeros}
 use lib.ListN.{length, get_or}
+use Rattle.std.specs.Prelude.{Result}
 use Rattle.wire.specs.Table.{accepted, refused}
 use Rattle.wire.specs.Refusals.{SHORT}
 use Rattle.wire.specs.Le.{Bytes, le_at}
 use Rattle.wire.specs.Counts.{count_of, count_length, Reads}
-use Rattle.wire.specs.Shown.{shown_count}
-use Rattle.wire.specs.declared.count.CountRead.{CountRead}
+use Rattle.wire.specs.Shown.{shown_read}
+use Rattle.wire.specs.declared.refusal.Refused.{Refused}
+use Rattle.wire.specs.declared.units.ByteOffset.{ByteOffset}
+use Rattle.wire.specs.declared.units.Cursor.{Cursor}
+use Rattle.wire.specs.declared.count.Count.{Count}
 use Rattle.wire.proofs.Counts.{lt_or_ge, length_of_zero, count_short, whole_upto_8, whole_9}
 use Rattle.wire.proofs.Together.{shifted, byte_zeros, value_together}
 use Rattle.promises.proofs.Calls.{ReadsCount}
@@ -27,10 +31,10 @@ abbrev pub length_at : List ℕ → ℕ → ℕ
 length_at s at = zeros_at s at + 1
 
 -- the answer is v, in len bytes at `at`, and whether that is the shortest
-abbrev pub Says : CountRead → ℕ → ℕ → ℕ → Type 0
-Says r at len v = shown_count r ≡ accepted (record { value = count_of len v; next = at + len })
+abbrev pub Says : Result (Count × Cursor) (Refused ByteOffset) → ℕ → ℕ → ℕ → Type 0
+Says r at len v = shown_read r ≡ accepted (record { value = count_of len v; next = at + len })
 
-pub record Request4 (s : List ℕ) (at : ℕ) (r : CountRead) : Type 0 where
+pub record Request4 (s : List ℕ) (at : ℕ) (r : Result (Count × Cursor) (Refused ByteOffset)) : Type 0 where
   -- eight bytes or more are left, and the first is not 0: eight as one word of 64 bits, shifted up and down
   pub together : at + 8 ≤ length s → 0 < get_or s at 0 → Says r at (length_at s at) (shifted (le_at s at 8) (zeros_at s at))
   -- nine or more are left, and the first is 0: the eight after it
@@ -38,10 +42,10 @@ pub record Request4 (s : List ℕ) (at : ℕ) (r : CountRead) : Type 0 where
   -- fewer than eight are left, and hold the count: its own bytes, without the bits that tell its length
   pub near_end : length s < at + 8 → at + length_at s at ≤ length s → Says r at (length_at s at) (le_at s at (length_at s at) / 2 ^ length_at s at)
   -- the count is not whole: past the end too, where a byte reads as 0
-  pub cut : length s < at + length_at s at → shown_count r ≡ refused SHORT at
+  pub cut : length s < at + length_at s at → shown_read r ≡ refused SHORT at
 
 -- the definition says so, and what is said in all cases is the definition: a count is whole or not, near the end or not, and begins with 0 or not
-module _ (s : List ℕ) (at : ℕ) (r : CountRead) (bytes : Bytes s) where
+module _ (s : List ℕ) (at : ℕ) (r : Result (Count × Cursor) (Refused ByteOffset)) (bytes : Bytes s) where
   reads_together : at + 8 ≤ length s → 0 < get_or s at 0 → Reads s at (length_at s at) (shifted (le_at s at 8) (zeros_at s at))
   unfolding count_length
   reads_together h p =
@@ -81,5 +85,5 @@ module _ (s : List ℕ) (at : ℕ) (r : CountRead) (bytes : Bytes s) where
   unfolding count_length
   from_all q = ⊎_elim (λ h. q.cut h ∙ sym (count_short s at h)) (λ w. from_whole q w) (lt_or_ge (length s) (at + length_at s at))
 
-pub counts_together : (s : List ℕ) (at : ℕ) (r : CountRead) → Bytes s → ReadsCount s at r ↔ Request4 s at r
+pub counts_together : (s : List ℕ) (at : ℕ) (r : Result (Count × Cursor) (Refused ByteOffset)) → Bytes s → ReadsCount s at r ↔ Request4 s at r
 counts_together s at r bytes = (case_by_case s at r bytes, from_all s at r bytes)

@@ -1,94 +1,41 @@
--- Lists: one held against another, or copied, from the first number on; a list of three parts; a part between two places.
+-- Lists in two widths: pairs at each place, and where the width is the same, the same list.
 -- Assumes nothing.
-use Rattle.std.proofs.Common.{◌≡◌, ℕ, ◌+◌, ◌-◌, ◌<◌, ◌≤◌, min, List, [], ◌∷◌, ◌++◌, length, get_or, take, drop, set, sym, refl, ap, ◌∙◌, ⊎_elim, add-one, arith, length-drop, length-set, take-append-drop, drop_of_length-le, length-take-le, take_all, drop-cons, take-suc, take-suc-set}
-use lib.Seq.{take-length}
+use Rattle.std.proofs.Common.{◌≡◌, ℕ, suc, ◌+◌, ◌<◌, ◌≤◌, List, [], ◌∷◌, length, ◌∙◌, arith, refl, subst, map, zero, get_or, set, take, take_all, take-suc, take-suc-set, add-one, ⊎_elim}
+use Rattle.std.specs.Array.{IsFromFnResultFrom, IsFromFnResult}
+use Rattle.std.specs.Fn.{Called}
+use denote.Param.Members.{Mut}
+use Rattle.std.proofs.lemmas.List.FromFn.{fill_by_all}
+use Rattle.std.proofs.lemmas.Slice.Zip.{all_zipped_more}
 use Rattle.wire.proofs.Counts.{lt_or_ge}
-use Rattle.recorded.specs.Calls.{between}
-use Rattle.recorded.specs.Inner.{IsPrefixLen, Starts}
+use Rattle.std.specs.List.{AllZip, AllWithin, zip, range_with_len}
 
--- the first i of two lists are the same
-pub record Alike (a b : List ℕ) (i : ℕ) : Type 0 where
-  pub inside : i ≤ length a
-  pub room : length a ≤ length b
-  pub same : take i b ≡ take i a
+-- what holds of each pair
+pub all_zip_pairs : {A B : Type 0} (R : A → B → Type 0) (xs : List A) (ys : List B) → length xs ≡ length ys → AllWithin (λ p. R p.0 p.1) (zip xs ys) 0 (length (zip xs ys)) → AllZip R xs ys
+all_zip_pairs R [] [] e h = tt
+all_zip_pairs R [] (y ∷ ys) e h = absurd (omega arith)
+all_zip_pairs R (x ∷ xs) [] e h = absurd (omega arith)
+all_zip_pairs R (x ∷ xs) (y ∷ ys) e h =
+    let f : length xs ≡ length ys = omega arith in
+    (h 0 (x, y) (omega arith) (omega arith), all_zip_pairs R xs ys f (λ k d p q. h (suc k) d (omega arith) (omega arith)))
 
-pub alike : (a b : List ℕ) → length a ≤ length b → Alike a b 0
-alike a b h = record { inside = omega arith; room = h; same = refl }
-
-module _ (a b : List ℕ) (i : ℕ) (h : Alike a b i) where
-  pub alike_more : i < length a → get_or a i 0 ≡ get_or b i 0 → Alike a b (i + 1)
-  alike_more p e =
-      let q : i < length b = omega (arith, h.room) in
-      record { inside = omega arith; room = h.room; same = rw (add-one, take-suc a i 0 p, take-suc b i 0 q, h.same, e) }
-
-  pub alike_stored : i < length a → (x : ℕ) → x ≡ get_or a i 0 → Alike a (set b i x) (i + 1)
-  alike_stored p x e =
-      let q : i < length b = omega (arith, h.room) in
-      record {
-        inside = omega arith;
-        room = rw (length-set b i x) h.room;
-        same = rw (add-one, take-suc a i 0 p, take-suc-set b i x q, h.same, e);
-      }
-
-  pub alike_all : length a ≤ i → Starts a b
-  alike_all p =
-      let e : i ≡ length a = omega (arith, h.inside) in
-      record { room = h.room; long = sym (length-take-le (length a) b h.room); is = rw (sym e) (h.same ∙ take_all i a p) }
-
--- lists of one length that start alike
-pub starts_same : (a b : List ℕ) → Starts a b → length a ≡ length b → a ≡ b
-starts_same a b h e = sym h.is ∙ rw e (take-length b)
-
--- a copy of the first n of a list
-pub starts_count : (n : ℕ) (l copy : List ℕ) → IsPrefixLen n l → Starts (take n l) copy → IsPrefixLen n copy × (take n copy ≡ take n l)
-starts_count n l copy c h =
-    let e : length (take n l) ≡ n = sym c.1 in
-    ((rw e at h.room, rw e at h.long), rw e at h.is)
-
--- a list is two parts
-pub two_parts : (a b l : List ℕ) → a ≡ take (length a) l → b ≡ take (length l - length a) (drop (length a) l) → l ≡ a ++ b
-two_parts a b l p q =
-    let last : b ≡ drop (length a) l = q ∙ take_all (length l - length a) (drop (length a) l) (rw (length-drop (length a) l) (omega arith)) in
-    sym (take-append-drop (length a) l) ∙ ap (λ (z : List ℕ). z ++ drop (length a) l) (sym p) ∙ ap (λ (z : List ℕ). a ++ z) (sym last)
-
--- a list is its first two numbers and the rest
-pub two_then : (x y : ℕ) (b l : List ℕ) → 2 ≤ length l → get_or l 0 0 ≡ x → get_or l 1 0 ≡ y → take (length l - 2) (drop 2 l) ≡ b → l ≡ x ∷ y ∷ b
-two_then x y b l h e f p =
-    let rest : drop 2 l ≡ b = sym (take_all (length l - 2) (drop 2 l) (rw (length-drop 2 l) (omega arith))) ∙ p in
-    drop-cons l 0 0 (omega arith) ∙ rw (e, drop-cons l 1 0 (omega arith), f, rest)
-
--- what is between two places, where these are first brought inside
-module _ (from to : ℕ) (l : List ℕ) where
-  nothing_left : to ≤ from → between from to l ≡ []
-  unfolding between
-  nothing_left h = let e : to - from ≡ 0 = omega arith in rw e
-
-  to_the_end : length l ≤ to → between from to l ≡ drop from l
-  unfolding between
-  to_the_end h = take_all (to - from) (drop from l) (rw (length-drop from l) (omega arith))
-
-  all_inside : (start end : ℕ) → end ≡ to → start ≡ from → take (end - start) (drop start l) ≡ between from to l
-  unfolding between
-  all_inside start end p q = rw (p, q)
-
-  over_the_end : (start end : ℕ) → end ≡ length l → start ≡ min from end → length l ≤ to → take (end - start) (drop start l) ≡ between from to l
-  over_the_end start end p q h =
-      let left : drop start l ≡ drop from l =
+-- what `array::from_fn` makes, where each call gives h of its number and leaves the closure as it was
+module _ {F : Type 0} (g : Mut F (ℕ × Unit {0}) ℕ) (h : ℕ → ℕ) (f : F) (gives : (i : ℕ) (y : ℕ) (q : F) → Called g f (i, tt) y q → (q ≡ f) × (y ≡ h i)) where
+  made_from : (ys : List ℕ) (q : F) (i n : ℕ) → q ≡ f → IsFromFnResultFrom g q ys i n → (k : ℕ) → i ≤ k → k < i + n → get_or ys k 0 ≡ h k
+  made_from ys q i zero e m k low high = absurd (omega arith)
+  made_from ys q i (suc n) e (t, y, at, call, more) k low high =
+      let c = gives i y t (subst (λ s. Called g s (i, tt) y t) e call) in
       ⊎_elim
-      (λ (k : from < length l). let s : start ≡ from = omega arith in rw s)
-      (λ (k : length l ≤ from). let s : length l ≤ start = omega arith in drop_of_length-le l s ∙ sym (drop_of_length-le l k))
-      (lt_or_ge from (length l))
-      in
-      take_all (end - start) (drop start l) (rw (length-drop start l) (omega arith)) ∙ left ∙ sym (to_the_end h)
+      (λ (p : i < k). made_from ys t (i + 1) n c.0 more k (omega arith) (omega arith))
+      (λ (p : k ≤ i). let s : k ≡ i = omega arith in rw s (at.1 0 ∙ c.1))
+      (lt_or_ge i k)
 
-  pub between_inside : (start end : ℕ) → end ≡ min to (length l) → start ≡ min from end → take (end - start) (drop start l) ≡ between from to l
-  between_inside start end p q =
-      ⊎_elim
-      (λ (h : to < length l).
-      let e : end ≡ to = omega arith in
-      ⊎_elim
-      (λ (k : from < to). let s : start ≡ from = omega arith in all_inside start end e s)
-      (λ (k : to ≤ from). let s : end - start ≡ 0 = omega arith in rw s (sym (nothing_left k)))
-      (lt_or_ge from to))
-      (λ (h : length l ≤ to). let e : end ≡ length l = omega arith in over_the_end start end e q h)
-      (lt_or_ge to (length l))
+  pub made : (ys : List ℕ) (n : ℕ) → IsFromFnResult g f ys n → ys ≡ map h (range_with_len 0 n)
+  made ys n m = fill_by_all h ys n 0 m.long (λ k l. made_from ys f 0 n refl m.each k (omega arith) (omega arith))
+
+-- one more number is stored in its width
+pub stored_more : {A : Type 0} (R : ℕ → A → Type 0) (l : List ℕ) (out : List A) (i : ℕ) (y : A) → i < length l → i < length out → R (get_or l i 0) y →
+    AllZip R (take i l) (take i out) → AllZip R (take (i + 1) l) (take (i + 1) (set out i y))
+stored_more R l out i y h k r z = rw (add-one i, take-suc l i 0 h, take-suc-set out i y k) (all_zipped_more R (take i l) (take i out) (get_or l i 0) y z r)
+
+pub stored_all : {A : Type 0} (R : ℕ → A → Type 0) (l : List ℕ) (out : List A) (i : ℕ) → length l ≤ i → length out ≤ i → AllZip R (take i l) (take i out) → AllZip R l out
+stored_all R l out i h k z = rw (take_all i l h, take_all i out k) at z

@@ -1,30 +1,34 @@
--- What private contracts say. (`long` follows from the rest; as a field `search` finds it by itself.)
-use Rattle.std.specs.Prelude.{◌≡◌, ℕ, ◌<◌, ◌≤◌, List, ◌∷◌, length, take, drop}
+-- What private contracts say. (`long` follows from the rest; as a part `search` finds it by itself.)
+use Rattle.std.specs.Prelude.{◌≡◌, ℕ, ◌<◌, ◌≤◌, List, [], ◌∷◌, ◌++◌, Result, Ok, length, take}
+use Rattle.std.specs.List.{AllZip}
 use Rattle.text.specs.Marks.{before, past}
 use Rattle.recorded.specs.Text.{numbers_in}
+use Rattle.recorded.specs.Calls.{call_row}
+use Rattle.recorded.specs.declared.told.Case.{Case}
 
 -- `&xs[..n]` is in bounds and has n numbers; the second part follows from the first
-abbrev pub IsPrefixLen : ℕ → List ℕ → Type 0
+abbrev pub IsPrefixLen : {A : Type 0} → ℕ → List A → Type 0
 IsPrefixLen n xs = (n ≤ length xs) × (n ≡ length (take n xs))
 
--- a list is cut at its first mark: what is before it ends at `end`, and what is past it begins at `rest`
-pub record CutAt (l : List ℕ) (mark end rest : ℕ) : Type 0 where
-  pub inside : end ≤ length l
-  pub long : end ≡ length (take end l)
-  pub within : rest ≤ length l
-  pub later : end ≤ rest
-  pub goes : 0 < length l → 0 < rest
-  pub front : take end l ≡ before mark l
-  pub back : drop rest l ≡ past mark l
+-- numbers and what a conversion, which may fail, gives of each
+abbrev pub Converts : {A E : Type 0} → (ℕ → Result A E → Type 0) → List ℕ → List A → Type 0
+Converts gives l xs = AllZip (λ n x. gives n (Ok x)) l xs
 
--- from `at` on there is a number, and the others begin at `next`
-pub record NumberAt (l : List ℕ) (at value next : ℕ) : Type 0 where
-  pub later : at < next
-  pub within : next ≤ length l
-  pub reads : numbers_in (drop at l) ≡ value ∷ numbers_in (drop next l)
+-- a list is cut at its first mark, or has none
+pub record SplitsAt (l : List ℕ) (mark : ℕ) (front back : List ℕ) : Type 0 where
+  pub whole : l ≡ front ++ mark ∷ back
+  pub front_is : front ≡ before mark l
+  pub back_is : back ≡ past mark l
 
--- a list starts with another
-pub record Starts (a l : List ℕ) : Type 0 where
-  pub room : length a ≤ length l
-  pub long : length a ≡ length (take (length a) l)
-  pub is : take (length a) l ≡ a
+pub record NoMark (l : List ℕ) (mark : ℕ) : Type 0 where
+  pub front_is : l ≡ before mark l
+  pub back_is : [] ≡ past mark l
+
+-- a text begins with a number, and the others are those of the rest
+pub record BeginsWith (l : List ℕ) (value : ℕ) (rest : List ℕ) : Type 0 where
+  pub shorter : length rest < length l
+  pub reads : numbers_in l ≡ value ∷ numbers_in rest
+
+-- the row of a case is what is recorded of a call over its file and what it is given, and the memory that is lent
+abbrev pub Records : Case → ℕ → List ℕ → Type 0
+Records case call lent = case.row.now ≡ call_row call case.file.now case.given.now lent

@@ -1,66 +1,77 @@
 // A line that is a case, over a file.
-ghost use Rattle.std.specs.Prelude.{◌≡◌, true, drop, slice_index};
-ghost use Rattle.text.specs.Marks.{before, past};
-ghost use Rattle.recorded.specs.Text.{numbers_in};
-ghost use Rattle.recorded.specs.Calls.{call_row};
+ghost use Rattle.std.specs.Prelude.{◌≡◌, true, IsTrue};
 ghost use Rattle.recorded.specs.Agreed.{agrees};
+ghost use Rattle.recorded.specs.Inner.{Records};
 
-use crate::digests::{digest_agrees, slots_agree};
-use crate::files::file_agrees;
-use crate::map::map_agrees;
-use crate::numbers::numbers_agree;
+use crate::digests::{digest_agrees, filled_agrees, table_agrees};
+use crate::files::{
+    children_agrees, entry_agrees, flags_agrees, order_agrees, root_agrees, scan_agrees,
+    strict_agrees,
+};
+use crate::map::{
+    key_agrees, lookup_agrees, map_entry_agrees, places_agrees, values_agrees, walk_agrees,
+};
+use crate::numbers::{count_agrees, decoded_agrees, encoded_agrees, length_agrees, version_agrees};
 use crate::reading::{cut, numbers_of};
-use crate::written::bytes_agree;
+use crate::told::Case;
+use crate::written::{stored_agrees, written_agrees};
 
-fn call_agrees(call: u64, s: &[u8], a: &[u64], lent: &mut [u64], row: &[u64]) -> bool
-    ensures { result ≡ true → row.now ≡ call_row call s.now a.now lent.old }
+fn call_agrees(call: u64, case: &Case, lent: &mut [u64]) -> bool
+    ensures { IsTrue result → Records case.now call lent.old }
 {
     match call {
-        1..=4 | 23 => numbers_agree(call, s, a, lent, row),
-        5..=10 | 19 => file_agrees(call, s, a, lent, row),
-        11 => digest_agrees(s, a, lent, row),
-        12 | 13 => slots_agree(call, s, a, lent, row),
-        14 | 18 => bytes_agree(call, s, a, lent, row),
-        15..=17 | 20..=22 => map_agrees(call, s, a, lent, row),
+        1 => count_agrees(case, lent),
+        2 => length_agrees(case, lent),
+        3 => decoded_agrees(case, lent),
+        4 => encoded_agrees(case, lent),
+        5 => scan_agrees(case, lent),
+        6 => root_agrees(case, lent),
+        7 => entry_agrees(case, lent),
+        8 => children_agrees(case, lent),
+        9 => order_agrees(case, lent),
+        10 => strict_agrees(case, lent),
+        11 => digest_agrees(case, lent),
+        12 => table_agrees(case, lent),
+        13 => filled_agrees(case, lent),
+        14 => stored_agrees(case, lent),
+        15 => walk_agrees(case, lent),
+        16 => lookup_agrees(case, lent),
+        17 => values_agrees(case, lent),
+        18 => written_agrees(case, lent),
+        19 => flags_agrees(case, lent),
+        20 => places_agrees(case, lent),
+        21 => key_agrees(case, lent),
+        22 => map_entry_agrees(case, lent),
+        23 => version_agrees(case, lent),
         _ => false,
     }
 }
 
-// The groups after the first, over what that gives.
-fn rest_agrees(s: &[u8], given: &[u64], rest: &[u8]) -> bool
-    ensures { result ≡ true → numbers_in (past 59 rest.now) ≡ call_row (slice_index given.now 0) s.now (drop 1 given.now) (numbers_in (before 59 rest.now)) }
+// A line has three groups of numbers: the call and what it is given, the memory that is lent, and the recorded row.
+pub(crate) fn case_agrees(file: &[u8], line: &[u8]) -> bool
+    ensures { IsTrue result → agrees file.now line.now ≡ true }
 {
-    if given.len() == 0 {
-        return false;
-    }
-    let middle = cut(rest, b';');
-    let end = middle.end;
-    let last = middle.rest;
+    let (first, rest) = cut(line, b';');
+    let (middle, last) = cut(rest, b';');
+    let mut given = [0u64; 4096];
     let mut lent = [0u64; 4096];
     let mut row = [0u64; 8192];
-    let places = numbers_of(&rest[..end], &mut lent);
-    let recorded = numbers_of(&rest[last..], &mut row);
-    let m = places.count;
-    let n = recorded.count;
-    if places.whole {
-        if recorded.whole {
-            return call_agrees(given[0], s, &given[1..], &mut lent[..m], &row[..n]);
-        }
-    }
-    false
-}
-
-pub(crate) fn case_agrees(s: &[u8], line: &[u8]) -> bool
-    ensures { result ≡ true → agrees s.now line.now ≡ true }
-{
-    let first = cut(line, b';');
-    let end = first.end;
-    let rest = first.rest;
-    let mut given = [0u64; 4096];
-    let read = numbers_of(&line[..end], &mut given);
-    let n = read.count;
-    if read.whole {
-        return rest_agrees(s, &given[..n], &line[rest..]);
-    }
-    false
+    let Some(n) = numbers_of(first, &mut given) else {
+        return false;
+    };
+    let Some(m) = numbers_of(middle, &mut lent) else {
+        return false;
+    };
+    let Some(k) = numbers_of(last, &mut row) else {
+        return false;
+    };
+    let Some((call, given)) = given[..n].split_first() else {
+        return false;
+    };
+    let case = Case {
+        file,
+        given,
+        row: &row[..k],
+    };
+    call_agrees(*call, &case, &mut lent[..m])
 }

@@ -15,7 +15,6 @@ ghost use Rattle.std.specs.Io.KnownBytes.{Consumes, IsAtEnd};
 use std::io;
 use std::io::Read;
 
-mod arrays;
 mod case;
 mod digests;
 mod files;
@@ -32,16 +31,14 @@ use tally::tally;
 
 // Where a case does not agree, its line is named.
 fn print_section(rt: &impl Print, section: &[u8]) -> io::Result<u64> {
-    let title = cut(section, b'\n');
-    let end = title.end;
-    let rest = title.rest;
-    let counted = tally(&section[rest..]);
+    let (title, lines) = cut(section, b'\n');
+    let counted = tally(lines);
     rt.print(counted.agreed)?;
     rt.write_all(b" agree: ")?;
-    rt.write_all(&section[..end])?;
-    if 0 < counted.lost {
+    rt.write_all(title)?;
+    if let Some(line) = counted.lost {
         rt.write_all(b", but not line ")?;
-        rt.print(counted.lost)?;
+        rt.print(line)?;
     }
     rt.write_all(b"\n")?;
     Ok(counted.agreed)
@@ -50,13 +47,11 @@ fn print_section(rt: &impl Print, section: &[u8]) -> io::Result<u64> {
 // What comes before the first `@` is no section.
 fn print_all(rt: &impl Print, text: &[u8]) -> io::Result<()> {
     let mut agreed: u64 = 0;
-    let mut at = cut(text, b'@').rest;
-    while at < text.len() {
-        let section = cut(&text[at..], b'@');
-        let end = at + section.end;
-        let more = print_section(rt, &text[at..end])?;
-        agreed = agreed.wrapping_add(more);
-        at += section.rest;
+    let (_, mut rest) = cut(text, b'@');
+    while !rest.is_empty() {
+        let (section, after) = cut(rest, b'@');
+        agreed = agreed.wrapping_add(print_section(rt, section)?);
+        rest = after;
     }
     rt.print(agreed)?;
     rt.write_all(b" agree in all\n")

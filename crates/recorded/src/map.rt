@@ -1,92 +1,75 @@
 // Calls over the map and its key table.
-ghost use Rattle.std.specs.Prelude.{◌≡◌, true};
-ghost use Rattle.recorded.specs.Calls.{call_row};
+ghost use Rattle.std.specs.Prelude.{IsTrue};
+ghost use Rattle.recorded.specs.Inner.{Records};
 
-use crate::arrays::{four, key_given, six, three};
-use crate::lists::number;
-use crate::told::{is_number, is_told};
+use crate::told::Case;
 use vekalumist::map::{
     veka_raw_key, veka_raw_lookup, veka_raw_map_entry, veka_raw_places, veka_raw_values,
     veka_raw_walk,
 };
 
-fn places_agrees(s: &[u8], a: &[u64], keys: &[u64], row: &[u64]) -> bool
-    ensures { result ≡ true → row.now ≡ call_row 20 s.now a.now keys.now }
+#[tactic(auto, unfolding(crate::specs::Calls::call_row))]
+pub(crate) fn places_agrees(case: &Case, keys: &[u64]) -> bool
+    ensures { IsTrue result → Records case.now 20 keys.now }
 {
-    is_number(veka_raw_places(s, number(a, 0) as usize), row)
+    case.is_number(veka_raw_places(case.file, case.place(0)))
 }
 
-fn walk_agrees(s: &[u8], a: &[u64], keys: &mut [u64], row: &[u64]) -> bool
-    ensures { result ≡ true → row.now ≡ call_row 15 s.now a.now keys.old }
-{
-    let mut answer = [901u64, 902, 903, 904];
-    let mut place: u64 = 900;
-    let r = veka_raw_walk(s, number(a, 0) as usize, keys, &mut answer, &mut place);
-    is_told(r, place, four(&answer), keys, row)
-}
-
-fn key_agrees(s: &[u8], a: &[u64], keys: &[u64], row: &[u64]) -> bool
-    ensures { result ≡ true → row.now ≡ call_row 21 s.now a.now keys.now }
+pub(crate) fn walk_agrees(case: &Case, keys: &mut [u64]) -> bool
+    ensures { IsTrue result → Records case.now 15 keys.old }
 {
     let mut answer = [901u64, 902, 903, 904];
     let mut place: u64 = 900;
-    let r = veka_raw_key(s, keys, number(a, 0) as usize, &mut answer, &mut place);
-    is_told(r, place, four(&answer), keys, row)
+    let r = veka_raw_walk(case.file, case.place(0), keys, &mut answer, &mut place);
+    case.is_told(r, place, &answer, keys)
 }
 
-fn map_entry_agrees(s: &[u8], a: &[u64], keys: &[u64], row: &[u64]) -> bool
-    ensures { result ≡ true → row.now ≡ call_row 22 s.now a.now keys.now }
+pub(crate) fn key_agrees(case: &Case, keys: &[u64]) -> bool
+    ensures { IsTrue result → Records case.now 21 keys.now }
+{
+    let mut answer = [901u64, 902, 903, 904];
+    let mut place: u64 = 900;
+    let r = veka_raw_key(case.file, keys, case.place(0), &mut answer, &mut place);
+    case.is_told(r, place, &answer, keys)
+}
+
+pub(crate) fn map_entry_agrees(case: &Case, keys: &[u64]) -> bool
+    ensures { IsTrue result → Records case.now 22 keys.now }
 {
     let mut answer = [901u64, 902, 903, 904, 905, 906];
     let mut place: u64 = 900;
-    let r = veka_raw_map_entry(s, keys, number(a, 0) as usize, &mut answer, &mut place);
-    is_told(r, place, six(&answer), keys, row)
+    let r = veka_raw_map_entry(case.file, keys, case.place(0), &mut answer, &mut place);
+    case.is_told(r, place, &answer, keys)
 }
 
-fn lookup_agrees(s: &[u8], a: &[u64], keys: &[u64], row: &[u64]) -> bool
-    ensures { result ≡ true → row.now ≡ call_row 16 s.now a.now keys.now }
+pub(crate) fn lookup_agrees(case: &Case, keys: &[u64]) -> bool
+    ensures { IsTrue result → Records case.now 16 keys.now }
 {
-    let given = key_given(a);
     let mut answer = [901u64, 902, 903, 904];
     let mut place: u64 = 900;
     let r = veka_raw_lookup(
-        s,
+        case.file,
         keys,
-        number(a, 4) as usize,
-        &given,
+        case.place(4),
+        &case.numbers(),
         &mut answer,
         &mut place,
     );
-    is_told(r, place, four(&answer), keys, row)
+    case.is_told(r, place, &answer, keys)
 }
 
-fn values_agrees(s: &[u8], a: &[u64], keys: &[u64], row: &[u64]) -> bool
-    ensures { result ≡ true → row.now ≡ call_row 17 s.now a.now keys.now }
+pub(crate) fn values_agrees(case: &Case, keys: &[u64]) -> bool
+    ensures { IsTrue result → Records case.now 17 keys.now }
 {
-    let given = key_given(a);
     let mut answer = [901u64, 902, 903];
     let mut place: u64 = 900;
     let r = veka_raw_values(
-        s,
+        case.file,
         keys,
-        number(a, 4) as usize,
-        &given,
+        case.place(4),
+        &case.numbers(),
         &mut answer,
         &mut place,
     );
-    is_told(r, place, three(&answer), keys, row)
-}
-
-pub(crate) fn map_agrees(call: u64, s: &[u8], a: &[u64], keys: &mut [u64], row: &[u64]) -> bool
-    ensures { result ≡ true → row.now ≡ call_row call s.now a.now keys.old }
-{
-    match call {
-        15 => walk_agrees(s, a, keys, row),
-        16 => lookup_agrees(s, a, keys, row),
-        17 => values_agrees(s, a, keys, row),
-        20 => places_agrees(s, a, keys, row),
-        21 => key_agrees(s, a, keys, row),
-        22 => map_entry_agrees(s, a, keys, row),
-        _ => false,
-    }
+    case.is_told(r, place, &answer, keys)
 }

@@ -1,64 +1,49 @@
 // Calls over numbers: counts, entries, the version.
-ghost use Rattle.std.specs.Prelude.{◌≡◌, true};
-ghost use Rattle.recorded.specs.Calls.{call_row};
+ghost use Rattle.std.specs.Prelude.{IsTrue};
+ghost use Rattle.recorded.specs.Inner.{Records};
 
-use crate::arrays::{entry_given, four, three};
-use crate::lists::number;
-use crate::told::{is_number, is_told};
+use crate::told::Case;
 use vekalumist::counts::{veka_raw_read_count, veka_shortest_len};
 use vekalumist::entries::{veka_decode_entry, veka_encode_entry};
 use vekalumist::veka_version;
 
-fn count_agrees(s: &[u8], a: &[u64], lent: &[u64], row: &[u64]) -> bool
-    ensures { result ≡ true → row.now ≡ call_row 1 s.now a.now lent.now }
+pub(crate) fn count_agrees(case: &Case, lent: &[u64]) -> bool
+    ensures { IsTrue result → Records case.now 1 lent.now }
 {
     let mut answer = [901u64, 902, 903, 904];
     let mut place: u64 = 900;
-    let r = veka_raw_read_count(s, number(a, 0) as usize, &mut answer, &mut place);
-    is_told(r, place, four(&answer), lent, row)
+    let r = veka_raw_read_count(case.file, case.place(0), &mut answer, &mut place);
+    case.is_told(r, place, &answer, lent)
 }
 
-fn length_agrees(s: &[u8], a: &[u64], lent: &[u64], row: &[u64]) -> bool
-    ensures { result ≡ true → row.now ≡ call_row 2 s.now a.now lent.now }
+#[tactic(auto, unfolding(crate::specs::Calls::call_row))]
+pub(crate) fn length_agrees(case: &Case, lent: &[u64]) -> bool
+    ensures { IsTrue result → Records case.now 2 lent.now }
 {
-    is_number(veka_shortest_len(number(a, 0)), row)
+    case.is_number(veka_shortest_len(case.number(0)))
 }
 
-fn decoded_agrees(s: &[u8], a: &[u64], lent: &[u64], row: &[u64]) -> bool
-    ensures { result ≡ true → row.now ≡ call_row 3 s.now a.now lent.now }
+pub(crate) fn decoded_agrees(case: &Case, lent: &[u64]) -> bool
+    ensures { IsTrue result → Records case.now 3 lent.now }
 {
     let mut answer = [901u64, 902, 903];
     let mut place: u64 = 900;
-    let r = veka_decode_entry(number(a, 0), &mut answer, &mut place);
-    is_told(r, place, three(&answer), lent, row)
+    let r = veka_decode_entry(case.number(0), &mut answer, &mut place);
+    case.is_told(r, place, &answer, lent)
 }
 
-fn encoded_agrees(s: &[u8], a: &[u64], lent: &[u64], row: &[u64]) -> bool
-    ensures { result ≡ true → row.now ≡ call_row 4 s.now a.now lent.now }
+pub(crate) fn encoded_agrees(case: &Case, lent: &[u64]) -> bool
+    ensures { IsTrue result → Records case.now 4 lent.now }
 {
-    let given = entry_given(a);
     let mut word: u64 = 901;
     let mut place: u64 = 900;
-    let r = veka_encode_entry(&given, &mut word, &mut place);
-    let answer = [word];
-    is_told(r, place, &answer, lent, row)
+    let r = veka_encode_entry(&case.numbers(), &mut word, &mut place);
+    case.is_told(r, place, &[word], lent)
 }
 
-fn version_agrees(s: &[u8], a: &[u64], lent: &[u64], row: &[u64]) -> bool
-    ensures { result ≡ true → row.now ≡ call_row 23 s.now a.now lent.now }
+#[tactic(auto, unfolding(crate::specs::Calls::call_row))]
+pub(crate) fn version_agrees(case: &Case, lent: &[u64]) -> bool
+    ensures { IsTrue result → Records case.now 23 lent.now }
 {
-    is_number(veka_version(), row)
-}
-
-pub(crate) fn numbers_agree(call: u64, s: &[u8], a: &[u64], lent: &[u64], row: &[u64]) -> bool
-    ensures { result ≡ true → row.now ≡ call_row call s.now a.now lent.now }
-{
-    match call {
-        1 => count_agrees(s, a, lent, row),
-        2 => length_agrees(s, a, lent, row),
-        3 => decoded_agrees(s, a, lent, row),
-        4 => encoded_agrees(s, a, lent, row),
-        23 => version_agrees(s, a, lent, row),
-        _ => false,
-    }
+    case.is_number(veka_version())
 }

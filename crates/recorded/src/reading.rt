@@ -1,114 +1,60 @@
 // The text: cut at a mark, and its numbers.
-ghost use Rattle.std.specs.Prelude.{◌≡◌, true, take};
+ghost use Rattle.std.specs.Prelude.{◌≡◌, IfSome, IfNone, take};
+ghost use Rattle.text.specs.Marks.{before, past};
 ghost use Rattle.recorded.specs.Text.{numbers_in};
-ghost use Rattle.recorded.specs.Inner.{CutAt, IsPrefixLen, NumberAt};
+ghost use Rattle.recorded.specs.Inner.{IsPrefixLen, NoMark, SplitsAt, BeginsWith, Converts};
 
-use text::mark::mark_from;
+use text::digits::number_of;
 
-// Where what is before the first mark ends, and where what is past it begins.
-#[derive(Clone, Copy)]
-pub(crate) struct Halves {
-    pub(crate) end: usize,
-    pub(crate) rest: usize,
-}
-
-pub(crate) fn cut(l: &[u8], mark: u8) -> Halves
-    ensures { CutAt l.now mark result.end result.rest }
+// What is before the first mark and what is past it, where there is one.
+fn split_once(l: &[u8], mark: u8) -> Option<(&[u8], &[u8])>
+    ensures none { IfNone result (NoMark l.now mark) }
+    ensures some { IfSome result (λ r. SplitsAt l.now mark r.0.now r.1.now) }
 {
-    let end = mark_from(l, mark, 0);
-    if end < l.len() {
-        return Halves { end, rest: end + 1 };
-    }
-    Halves { end, rest: end }
+    let end = l.iter().position(|b| *b == mark)?;
+    Some((&l[..end], &l[end + 1..]))
 }
 
-// A number and where the next begins; not whole where there is none.
-#[derive(Clone, Copy)]
-pub(crate) struct Parsed {
-    pub(crate) whole: bool,
-    pub(crate) value: u64,
-    pub(crate) next: usize,
-}
-
-// The number whose first digit is at `at`, below 2^64, with a space after it.
-fn number_at(l: &[u8], at: usize) -> Parsed
-    ensures { result.whole ≡ true → NumberAt l.now at result.value result.next }
+// The same, where all is before a mark that there is not.
+pub(crate) fn cut(l: &[u8], mark: u8) -> (&[u8], &[u8])
+    ensures front { result.0.now ≡ before mark l.now }
+    ensures back { result.1.now ≡ past mark l.now }
 {
-    let mut value: u64 = 0;
-    let mut i = at;
-    while i < l.len() {
-        let b = l[i];
-        if b == b' ' {
-            return Parsed {
-                whole: true,
-                value,
-                next: i + 1,
-            };
-        }
-        if b < b'0' {
-            return Parsed {
-                whole: false,
-                value: 0,
-                next: 0,
-            };
-        }
-        if b'9' < b {
-            return Parsed {
-                whole: false,
-                value: 0,
-                next: 0,
-            };
-        }
-        let d = (b - 48) as u64;
-        if (0xFFFF_FFFF_FFFF_FFFF - d) / 10 < value {
-            return Parsed {
-                whole: false,
-                value: 0,
-                next: 0,
-            };
-        }
-        value = 10 * value + d;
-        i += 1;
-    }
-    Parsed {
-        whole: false,
-        value: 0,
-        next: 0,
-    }
+    split_once(l, mark).unwrap_or((l, &[]))
 }
 
-// How many numbers are at the start of a buffer, unless not all of them are.
-#[derive(Clone, Copy)]
-pub(crate) struct Numbers {
-    pub(crate) whole: bool,
-    pub(crate) count: usize,
-}
-
-// Puts the numbers of a text at the start of `out`.
-pub(crate) fn numbers_of(l: &[u8], out: &mut [u64]) -> Numbers
-    ensures prefix_len { IsPrefixLen result.count out.new }
-    ensures out_after { result.whole ≡ true → take result.count out.new ≡ numbers_in l.now }
+// The number that a text begins with, below 2^64, with a space after it; and what follows. No digit at all is 0.
+fn first_number(l: &[u8]) -> Option<(u64, &[u8])>
+    ensures { IfSome result (λ r. BeginsWith l.now r.0 r.1.now) }
 {
-    let mut at: usize = 0;
+    let (digits, rest) = split_once(l, b' ')?;
+    let value = if digits.is_empty() {
+        0
+    } else {
+        number_of(digits)?
+    };
+    Some((value as u64, rest))
+}
+
+// Puts the numbers of a text at the start of `out`, in its width, and answers how many these are; nothing where one
+// is none or does not fit, or there are too many.
+pub(crate) fn numbers_of<T: TryFrom<u64>>(l: &[u8], out: &mut [T]) -> Option<usize>
+where
+    T::Error: Drop,
+    T: Drop,
+    ensures prefix_len { IfSome result (λ n. IsPrefixLen n out.new) }
+    ensures out_after { IfSome result (λ n. Converts T.try_from_gives (numbers_in l.now) (take n out.new)) }
+{
+    let mut rest = l;
     let mut count: usize = 0;
-    while at < l.len() {
-        let one = number_at(l, at);
-        if one.whole {
-            if out.len() <= count {
-                return Numbers {
-                    whole: false,
-                    count: 0,
-                };
-            }
-            out[count] = one.value;
-            count += 1;
-            at = one.next;
-        } else {
-            return Numbers {
-                whole: false,
-                count: 0,
-            };
+    while !rest.is_empty() {
+        let (value, after) = first_number(rest)?;
+        if count == out.len() {
+            return None;
         }
+        out[count] = T::try_from(value).ok()?;
+        count += 1;
+        rest = after;
     }
-    Numbers { whole: true, count }
+    Some(count)
 }

@@ -4,11 +4,11 @@ use mathlib.Core.Path.{◌≡◌, ap, ◌∙◌}
 use mathlib.Core.List.{List}
 use mathlib.Core.Bool.{true}
 use Prim.Native.Nat.{ℕ}
+use Rattle.std.specs.Prelude.{None}
 use Rattle.wire.specs.Table.{NoneMet}
 use Rattle.wire.proofs.Tables.{none_append, none_parts, accepted_none, none_accepted}
 use Rattle.layout.specs.Scan.{Scanned, map_at, scan_rules, layout_shown, scan_shown, scan_outcome}
 use Rattle.layout.specs.declared.facts.FormatFacts.{FormatFacts}
-use Rattle.layout.specs.declared.facts.Bound.TheVariants.{None}
 use Rattle.advice.specs.Walk.{Walked, walked, map_rules, walk_outcome}
 use Rattle.renderings.specs.Rendering.{Ends, Taken, file_rules}
 

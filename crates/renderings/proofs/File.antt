@@ -10,6 +10,7 @@ use native.Mathlib.Omega.{arith}
 use borrow.Author.Tests.{le-ltb}
 use lib.Dec.{ltb, eqb}
 use lib.ListN.{length, length-append}
+use Rattle.std.specs.Prelude.{None}
 use Rattle.wire.specs.Table.{Rule, rule, NoneMet}
 use Rattle.wire.specs.Refusals.{SHORT, MAGIC, VERSION, FLAGS, HASHLESS, OVERFLOW, TOO-MANY, BUDGET, EXTERNALS, FORMAT}
 use Rattle.wire.specs.Le.{over}
@@ -22,7 +23,6 @@ use Rattle.wire.proofs.Leaves.{count, bytes, byte, given, numbers, length-rows}
 use Rattle.layout.specs.Facts.{share, bad_format, over_budget, hash_bytes}
 use Rattle.layout.specs.Scan.{words_rules, externals}
 use Rattle.layout.specs.declared.facts.FormatFacts.{FormatFacts}
-use Rattle.layout.specs.declared.facts.Bound.TheVariants.{None}
 use Rattle.advice.proofs.Pieces.{Entry, map_piece}
 use Rattle.writer.specs.Writer.{written}
 use Rattle.layout.specs.Given.{Proper}

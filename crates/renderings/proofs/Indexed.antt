@@ -11,6 +11,7 @@ use native.Mathlib.Nat.{mul-suc, mul-zero, add_comm, add-zero, zero-add}
 use native.Mathlib.Omega.{arith}
 use lib.ListN.{length, get_or}
 use lib.Seq.{slice}
+use Rattle.std.specs.Prelude.{Option}
 use Rattle.wire.specs.Table.{refused, accepted, NoneMet}
 use Rattle.wire.specs.Refusals.{ROOT-ID}
 use Rattle.wire.specs.Le.{le_at}
@@ -22,7 +23,6 @@ use Rattle.rows.specs.Rows.{row_word}
 use Rattle.layout.specs.Scan.{nodes, roots, root_rows, entries_at, scan_rules, layout_shown}
 use Rattle.layout.specs.Index.{root_outcome, node_rules, node_outcome}
 use Rattle.layout.specs.declared.facts.FormatFacts.{FormatFacts}
-use Rattle.layout.specs.declared.facts.Bound.{Bound}
 use Rattle.layout.specs.declared.forest.ForestLayout.{ForestLayout}
 use Rattle.layout.proofs.Accepted.{end_to_end, node_answers, root_answers}
 use Rattle.writer.specs.Parts.{parts_shown}
@@ -46,7 +46,7 @@ row_from k (suc n) s at j i h l =
 pub row_at : (k n : ℕ) (s : List ℕ) (at i : ℕ) → at + k * n ≤ length s → i < n → get_or (numbers_of k n (slice at (at + k * n) s)) i 0 ≡ le_at s (at + k * i) k
 row_at k n s at i h l = simp (zero-add, add-zero) at (row_from k n s at 0 i (omega arith) l)
 
-module _ (f : FormatFacts) (s : List ℕ) (allow : Bool) (bound : Bound) (unmet : NoneMet (scan_rules f s allow bound)) (fits : length s < 2 ^ 64) where
+module _ (f : FormatFacts) (s : List ℕ) (allow : Bool) (bound : Option ℕ) (unmet : NoneMet (scan_rules f s allow bound)) (fits : length s < 2 ^ 64) where
   abbrev l : ForestLayout
   l = layout_shown f s allow bound
 

@@ -1,5 +1,5 @@
 -- Renderings: the file of some parts with each count in a given length; and which parts and lengths a file can have.
-use Rattle.std.specs.Prelude.{ℕ, ◌+◌, ◌*◌, ◌^◌, ◌≤◌, ◌<◌, ◌≡◌, true, false, List, [], ◌∷◌, ◌++◌, map, length, take, drop}
+use Rattle.std.specs.Prelude.{ℕ, ◌+◌, ◌*◌, ◌^◌, ◌≤◌, ◌<◌, ◌≡◌, true, false, List, [], ◌∷◌, ◌++◌, map, length, take, drop, None}
 use Rattle.wire.specs.Table.{Rule, accepted, NoneMet}
 use Rattle.wire.specs.Le.{Bytes}
 use Rattle.wire.specs.Rows.{rows, Below}
@@ -7,7 +7,6 @@ use Rattle.wire.specs.Counts.{Form, count_form, shortest_len}
 use Rattle.layout.specs.Facts.{share, bad_format, hash_bytes}
 use Rattle.layout.specs.Scan.{words_rules, externals, internal, external, roots, blocks, map_at, scan_rules, scan_outcome}
 use Rattle.layout.specs.declared.facts.FormatFacts.{FormatFacts}
-use Rattle.layout.specs.declared.facts.Bound.TheVariants.{None}
 use Rattle.layout.specs.declared.forest.ForestLayout.{ForestLayout}
 use Rattle.advice.specs.Walk.{Advice, entry_count, map_rules, walk_outcome}
 use Rattle.writer.specs.Parts.{Parts, advice, parts_shown, file_end}

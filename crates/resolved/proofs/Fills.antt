@@ -9,6 +9,7 @@ use Prim.Native.Nat.{ℕ, ◌+◌, ◌-◌, ◌*◌, ◌^◌, ◌≤◌, ◌<◌
 use native.Mathlib.Omega.{arith}
 use borrow.Author.Tests.{le-ltb}
 use lib.ListN.{length}
+use Rattle.std.specs.Prelude.{Option, Some, None}
 use Rattle.wire.specs.Table.{accepted, first_met, ◌>>=◌}
 use Rattle.wire.specs.Words.{not_elements, four_at}
 use Rattle.wire.specs.declared.units.ByteOffset.{ByteOffset}
@@ -16,11 +17,8 @@ use Rattle.wire.proofs.Tables.{none_accepted}
 use Rattle.info.specs.declared.MastNodeEntry.{MastNodeEntry}
 use Rattle.rows.specs.Rows.{row_at, row_over, count_external, entry_pass}
 use Rattle.layout.specs.Accepted.{EndToEnd, Counted}
-use Rattle.layout.specs.declared.facts.Bound.{Bound}
 use Rattle.layout.specs.declared.facts.FormatFacts.{FormatFacts}
 use Rattle.layout.specs.declared.forest.ForestLayout.{ForestLayout}
-use Rattle.layout.specs.declared.forest.HashSection.{HashSection}
-use Rattle.layout.specs.declared.forest.HashSection.TheVariants.{At, Absent}
 use Rattle.resolved.specs.Nodes.{external_in, node_entry, external_node}
 use Rattle.resolved.specs.Slots.{slot_of, lacks, spent, table_rules, slots_outcome}
 use Rattle.resolved.specs.Digests.{section_of, digest_rules, digest_at, digest_in, digest_by_counting, DigestSaid, word, no_hash, no_element}
@@ -33,7 +31,7 @@ module _ (f : FormatFacts) (s : List ℕ) (l : ForestLayout) (sections : EndToEn
   nodes = l.node_count
 
   -- no rule stands before the entries, and every entry reads
-  pub slots_fill : (bound : Bound) (room : ℕ) → lacks bound (4 * nodes) ≡ false → nodes ≤ room → slots_outcome s l bound room ≡ accepted (spent bound (4 * nodes))
+  pub slots_fill : (bound : Option ℕ) (room : ℕ) → lacks bound (4 * nodes) ≡ false → nodes ≤ room → slots_outcome s l bound room ≡ accepted (spent bound (4 * nodes))
   unfolding slots_outcome table_rules ◌>>=◌
   slots_fill bound room enough h =
       rw (none_accepted (table_rules nodes bound room) (tt {0}) (le-ltb (2 ^ 30) nodes counted.limit, (enough, (le-ltb room nodes h, tt {0}))), counted.pass) refl
@@ -46,7 +44,7 @@ module _ (f : FormatFacts) (s : List ℕ) (l : ForestLayout) (sections : EndToEn
 
   -- a row inside the file is its word, unless that is none
   row_said : (i slot : ℕ) (section : ByteOffset) → row_at section.0 32 slot + 32 ≤ length s → length s < 2 ^ 64 → (b : Bool) → not_elements (four_at s (row_at section.0 32 slot)) ≡ b
-      → DigestSaid s i slot (At section) (digest_at s i section.0 slot)
+      → DigestSaid s i slot (Some section) (digest_at s i section.0 slot)
   unfolding digest_at digest_rules first_met
   row_said i slot section inside fits true e =
       let low : row_over section.0 32 slot ≡ false = le-ltb (2 ^ 64 - 1) (row_at section.0 32 slot + 32) (omega arith) in
@@ -62,8 +60,8 @@ module _ (f : FormatFacts) (s : List ℕ) (l : ForestLayout) (sections : EndToEn
       let said = counting_digest s l i h c.0 c.1.1.0 c.1.0 c.1.1.1 in
       rw (said, ← kind) (go (section_of l (external_node s l i)) refl)
     where
-      go : (section : HashSection) → section_of l (external_node s l i) ≡ section → DigestSaid s i (slot_of (external_node s l) i) section (digest_in s i (slot_of (external_node s l) i) section)
-      go Absent e = no_hash refl
-      go (At section) e =
+      go : (section : Option ByteOffset) → section_of l (external_node s l i) ≡ section → DigestSaid s i (slot_of (external_node s l) i) section (digest_in s i (slot_of (external_node s l) i) section)
+      go None e = no_hash refl
+      go (Some section) e =
           let inside = row_in_section f s l sections counted i h section e in
           row_said i (slot_of (external_node s l) i) section (omega (arith, inside.0, inside.1)) fits (not_elements (four_at s (row_at section.0 32 (slot_of (external_node s l) i)))) refl

@@ -10,13 +10,13 @@ use native.Mathlib.Omega.{arith}
 use borrow.Author.Tests.{ltb-true, ltb-false}
 use lib.Dec.{ltb}
 use lib.ListN.{length, get_or, drop, length-append, length-drop, get_or-append}
+use Rattle.std.specs.Prelude.{Option}
 use Rattle.wire.specs.Table.{accepted, checked}
 use Rattle.wire.proofs.Stages.{both_taken}
 use Rattle.wire.proofs.Tables.{accepted_none}
 use Rattle.info.specs.declared.MastNodeEntry.{MastNodeEntry}
 use Rattle.rows.specs.Rows.{count_external, entry_pass}
 use Rattle.rows.proofs.Pass.{pass_each}
-use Rattle.layout.specs.declared.facts.Bound.{Bound}
 use Rattle.layout.specs.declared.forest.ForestLayout.{ForestLayout}
 use Rattle.resolved.specs.Nodes.{node_entry, external_node}
 use Rattle.resolved.specs.Slots.{slot_of, slots_of, table_rules, slots_outcome, table_after}
@@ -24,7 +24,7 @@ use Rattle.resolved.specs.Digests.{digest_by_counting, digest_with_table}
 use Rattle.resolved.proofs.SlotLaws.{length_slots, slot_at, filled_table}
 use Rattle.resolved.proofs.DigestLaws.{counting_index, counting_digest, table_index, table_digest}
 
-module _ (s : List ℕ) (l : ForestLayout) (bound left : Bound) (table : List ℕ) (built : slots_outcome s l bound (length table) ≡ accepted left) where
+module _ (s : List ℕ) (l : ForestLayout) (bound left : Option ℕ) (table : List ℕ) (built : slots_outcome s l bound (length table) ≡ accepted left) where
   abbrev nodes : ℕ
   nodes = l.node_count
 

@@ -10,13 +10,13 @@ use mathlib.Core.List.{List}
 use Prim.Native.Nat.{ℕ, ◌+◌, ◌*◌, ◌≤◌, ◌<◌}
 use native.Mathlib.Omega.{arith}
 use lib.ListN.{length}
+use Rattle.std.specs.Prelude.{Some}
 use Rattle.wire.specs.declared.units.ByteOffset.{ByteOffset}
 use Rattle.layout.specs.Facts.{hash_bytes}
 use Rattle.rows.specs.Rows.{row_at}
 use Rattle.layout.specs.Scan.{section_at, is_hashless}
 use Rattle.layout.specs.declared.facts.FormatFacts.{FormatFacts}
 use Rattle.layout.specs.declared.forest.ForestLayout.{ForestLayout}
-use Rattle.layout.specs.declared.forest.HashSection.TheVariants.{At}
 use Rattle.layout.specs.Accepted.{EndToEnd, Counted}
 use Rattle.resolved.specs.Nodes.{external_node}
 use Rattle.resolved.specs.Slots.{count_of, slot_of, rows_of}
@@ -24,7 +24,7 @@ use Rattle.resolved.specs.Digests.{section_of}
 use Rattle.resolved.proofs.SlotLaws.{count_both, counted_kinds, slot_below, slots_rise}
 
 -- a hash section that is there has its rows before the map
-hash_section : (hashless : Bool) (at rows file : ℕ) (section : ByteOffset) → section_at hashless at ≡ At section → at + hash_bytes hashless rows ≤ file → section.0 + 32 * rows ≤ file
+hash_section : (hashless : Bool) (at rows file : ℕ) (section : ByteOffset) → section_at hashless at ≡ Some section → at + hash_bytes hashless rows ≤ file → section.0 + 32 * rows ≤ file
 hash_section true at rows file section e h = let z : ◌≡◌ {A = ℕ} 0 1 = cc in absurd (omega arith)
 hash_section false at rows file section e h =
     let same : record { 0 = at } ≡ section = cc in
@@ -50,7 +50,7 @@ module _ (f : FormatFacts) (s : List ℕ) (l : ForestLayout) (sections : EndToEn
   slot_in_section i h = omega (arith, slot_below kinds i l.node_count h, kind_count (kinds i))
 
   -- a section that is there lies inside the file
-  section_inside : (kind : Bool) (section : ByteOffset) → section_of l kind ≡ At section → section.0 + 32 * rows_of l kind ≤ length s
+  section_inside : (kind : Bool) (section : ByteOffset) → section_of l kind ≡ Some section → section.0 + 32 * rows_of l kind ≤ length s
   section_inside true section e =
       let same : l.external_digest_offset ≡ section = cc in
       let place : l.external_digest_offset.0 ≡ section.0 = ap (λ (x : ByteOffset). x.0) same in
@@ -60,7 +60,7 @@ module _ (f : FormatFacts) (s : List ℕ) (l : ForestLayout) (sections : EndToEn
       omega (arith, sections.map, sections.inside) in
       hash_section (is_hashless f s) (l.external_digest_offset.0 + 32 * l.external_node_count.0) l.internal_node_count.0 (length s) section (sym sections.hashes ∙ e) end
 
-  pub row_in_section : (i : ℕ) → i < l.node_count → (section : ByteOffset) → section_of l (kinds i) ≡ At section →
+  pub row_in_section : (i : ℕ) → i < l.node_count → (section : ByteOffset) → section_of l (kinds i) ≡ Some section →
       (row_at section.0 32 (slot_of kinds i) + 32 ≤ section.0 + 32 * rows_of l (kinds i)) × (section.0 + 32 * rows_of l (kinds i) ≤ length s)
   row_in_section i h section e = (omega (arith, slot_in_section i h), section_inside (kinds i) section e)
 

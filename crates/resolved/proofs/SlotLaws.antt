@@ -9,8 +9,11 @@ use native.Mathlib.Numerals.{add-one}
 use native.Mathlib.Omega.{arith}
 use borrow.Author.Tests.{ne_eqb, ltb-true, ltb-false, lt-ltb}
 use lib.Dec.{ltb, leb, eqb}
-use lib.ListN.{length, get_or, drop, set, length-append, length-drop, get_or-append}
+use lib.ListN.{length, get_or, drop, set, length-append, get_or-append}
 use lib.Seq.{drop-cons, set_at, get_or_at, slice_empty}
+use Rattle.std.specs.Prelude.{Option, Some, None}
+use Rattle.std.specs.Option.{MatchOption, IsSomeAnd}
+use Rattle.std.specs.Int.{from_bool}
 use Rattle.wire.specs.Table.{Outcome, rule, refused, accepted, pick, first_met, checked, ◌>>=◌}
 use Rattle.wire.specs.Refusals.{TAG, PAYLOAD}
 use Rattle.wire.specs.Le.{Bytes, le, le_at}
@@ -24,10 +27,9 @@ use Rattle.info.proofs.NodeLaws.{by_tag}
 use Rattle.rows.specs.Rows.{row_word, row_rules, row_outcome, node_pass, external_one, count_external, entry_pass}
 use Rattle.rows.proofs.Pass.{pass_each}
 use Rattle.rows.proofs.RowLaws.{inside_row}
-use Rattle.layout.specs.declared.facts.Bound.{Bound}
 use Rattle.layout.specs.declared.forest.ForestLayout.{ForestLayout}
 use Rattle.resolved.specs.Nodes.{node_entry, external_in, external_row, external_node}
-use Rattle.resolved.specs.Slots.{count_of, slot_of, slots_of, spent, table_rules, slots_outcome, table_after}
+use Rattle.resolved.specs.Slots.{count_of, slot_of, slots_of, lacks, spent, table_rules, slots_outcome, table_after}
 
 -- ---- counts and slots, where `kinds i` is the kind of node i
 
@@ -38,6 +40,14 @@ same_kind false = refl
 is_true : (b : Bool) → beq true b ≡ b
 is_true true = refl
 is_true false = refl
+
+one_if : (b : Bool) → from_bool b ≡ pick b 1 0
+one_if true = refl
+one_if false = refl
+
+pub one_or_none : (b : Bool) → from_bool b ≤ 1
+one_or_none true = omega arith
+one_or_none false = omega arith
 
 one_kind : (b : Bool) → pick (beq true b) 1 0 + pick (beq false b) 1 0 ≡ 1
 one_kind true = refl
@@ -123,18 +133,15 @@ module _ {kinds : ℕ → Bool} {table₀ : List ℕ} where
   unfolding slots_of count_of
   upto_none = record { so_far = refl; external = refl }
 
-  pub upto_length : {table : List ℕ} {e i : ℕ} → Upto kinds table₀ table e i → i ≤ length table₀ → length table ≡ length table₀
-  upto_length u h = rw u.so_far (simp (length-append, length_slots, length-drop) (omega arith))
-
   pub upto_fit : {table : List ℕ} {e i : ℕ} → Upto kinds table₀ table e i → e ≤ i
   upto_fit {i = i} u = rw u.external (omega (arith, count_both kinds i))
 
-  pub upto_next : {table : List ℕ} {e i slot one : ℕ} → i < length table₀ → slot ≡ pick (kinds i) e (i - e) → one ≡ pick (kinds i) 1 0 →
+  pub upto_next : {table : List ℕ} {e i slot one : ℕ} → i < length table₀ → slot ≡ pick (kinds i) e (i - e) → one ≡ from_bool (kinds i) →
       Upto kinds table₀ table e i → Upto kinds table₀ (set table i slot) (e + one) (i + 1)
   upto_next {e = e} {i = i} h s o u =
       record {
         so_far = rw (u.so_far, s, slot_is kinds (kinds i) e i u.external) (fill_next kinds table₀ i h);
-        external = rw (count_next kinds true i, is_true (kinds i), o, u.external);
+        external = rw (count_next kinds true i, is_true (kinds i), o, one_if (kinds i), u.external);
       }
 
 -- ---- the top byte of a row
@@ -207,9 +214,22 @@ counted_kinds s first (suc n) x q =
 pub counted_le : (s : List ℕ) (first n externals : ℕ) → entry_pass (row_outcome s first) n ≡ accepted externals → externals ≤ n
 counted_le s first n externals q = omega (arith, counted_kinds s first n externals q, count_both (external_row s first) n)
 
+-- ---- the bound, as the code asks and lessens it
+
+pub lacks_said : (bound : Option ℕ) (bytes : ℕ) (t : Bool) (Said : ℕ → Type 0) → ((n : ℕ) → Said n → t ≡ ltb n bytes)
+    → MatchOption bound (t ≡ false) Said → t ≡ lacks bound bytes
+lacks_said None bytes t Said known e = e
+lacks_said (Some n) bytes t Said known e = known n e
+
+pub spent_said : (bound : Option ℕ) (bytes : ℕ) (r : Option ℕ) (Said : ℕ → ℕ → Type 0) → ((n m : ℕ) → Said n m → m ≡ n - bytes)
+    → MatchOption bound (r ≡ None) (λ n. IsSomeAnd r (Said n)) → r ≡ spent bound bytes
+spent_said None bytes r Said known e = e
+spent_said (Some n) bytes None Said known e = absurd e
+spent_said (Some n) bytes (Some m) Said known e = rw (known n m e)
+
 -- ---- the builder's answer and its table, stage by stage
 
-module _ (s : List ℕ) (l : ForestLayout) (bound : Bound) (table : List ℕ) where
+module _ (s : List ℕ) (l : ForestLayout) (bound : Option ℕ) (table : List ℕ) where
   abbrev nodes : ℕ
   nodes = l.node_count
 
@@ -221,7 +241,7 @@ module _ (s : List ℕ) (l : ForestLayout) (bound : Bound) (table : List ℕ) wh
   unfolding table_after
   refused_table n p e = rw e
 
-  pub filled_table : (left : Bound) → slots_outcome s l bound (length table) ≡ accepted left → table_after s l bound table ≡ slots_of (external_node s l) nodes ++ drop nodes table
+  pub filled_table : (left : Option ℕ) → slots_outcome s l bound (length table) ≡ accepted left → table_after s l bound table ≡ slots_of (external_node s l) nodes ++ drop nodes table
   unfolding table_after
   filled_table left e = rw (e, length_slots (external_node s l) nodes)
 
@@ -241,7 +261,7 @@ module _ (s : List ℕ) (l : ForestLayout) (bound : Bound) (table : List ℕ) wh
       (sym built, sym (refused_table n p built))
 
   -- filled
-  pub entries_fill : (externals : ℕ) (left : Bound) (after : List ℕ) → accepted tt ≡ rules → accepted externals ≡ entry_pass (node_entry s l) nodes →
+  pub entries_fill : (externals : ℕ) (left : Option ℕ) (after : List ℕ) → accepted tt ≡ rules → accepted externals ≡ entry_pass (node_entry s l) nodes →
       left ≡ spent bound (4 * nodes) → after ≡ slots_of (external_node s l) nodes ++ drop nodes table →
       (accepted left ≡ slots_outcome s l bound (length table)) × (after ≡ table_after s l bound table)
   unfolding slots_outcome ◌>>=◌

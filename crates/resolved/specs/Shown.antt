@@ -1,23 +1,13 @@
 -- What each answer says, by number and values.
-use Rattle.std.specs.Prelude.{ℕ, List}
-use Rattle.wire.specs.Table.{Outcome, refused, accepted}
-use Rattle.wire.specs.Refusals.{number_of}
-use Rattle.layout.specs.declared.facts.Bound.{Bound}
-use Rattle.resolved.specs.declared.slots.SlotsBuilt.{SlotsBuilt}
-use Rattle.resolved.specs.declared.slots.SlotsBuilt.TheVariants as slots
-use Rattle.resolved.specs.declared.digests.DigestAnswer.{DigestAnswer}
-use Rattle.resolved.specs.declared.digests.DigestAnswer.TheVariants as digest
-use Rattle.resolved.specs.declared.digests.DigestRead.{DigestRead}
+use Rattle.std.specs.Prelude.{ℕ, List, Option, Result}
+use Rattle.wire.specs.Table.{Outcome}
+use Rattle.wire.specs.Shown.{shown_by}
+use Rattle.wire.specs.declared.refusal.Refused.{Refused}
 
 -- what is left of the bound
-abbrev pub shown_slots : SlotsBuilt → Outcome Bound
-shown_slots (slots.Filled left) = accepted left
-shown_slots (slots.Refused why i) = refused (number_of why) i
+abbrev pub shown_slots : Result (Option ℕ) (Refused ℕ) → Outcome (Option ℕ)
+shown_slots = shown_by (λ left. left)
 
--- an answer, with the digest beside it
-abbrev pub shown_answer : DigestAnswer → List ℕ → Outcome (List ℕ)
-shown_answer digest.Digest word = accepted word
-shown_answer (digest.Refused why i) word = refused (number_of why) i
-
-abbrev pub shown_digest : DigestRead → Outcome (List ℕ)
-shown_digest r = shown_answer r.answer r.word
+-- the digest
+abbrev pub shown_digest : Result (List ℕ) (Refused ℕ) → Outcome (List ℕ)
+shown_digest = shown_by (λ word. word)

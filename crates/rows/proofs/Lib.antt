@@ -2,4 +2,3 @@ pub mod RowLaws
 pub mod Pass
 pub mod Quick
 pub mod Pairs
-pub mod Answers

@@ -97,13 +97,6 @@ module _ (pair halves : ℕ) (fits : pair < 2 ^ 64) (half : halves ≡ beside (p
       let k = clear_29 _ _ fit (rw wide_marks at c) in
       (unmarked_narrow low k.0, unmarked_narrow high k.1)
 
-  pub clear_low : Clear 31 (halves + 0x3800000038000000) → (low < 9 * 2 ^ 28) × (high < 9 * 2 ^ 28)
-  clear_low c =
-      let sum : halves + 0x3800000038000000 ≡ beside (low / 2 + 7 * 2 ^ 27) (high / 2 + 7 * 2 ^ 27) = omega (arith, half) in
-      let fit : low / 2 + 7 * 2 ^ 27 < 2 ^ 32 = omega arith in
-      let k = clear_31 _ _ fit (rw sum at c) in
-      (unmarked_low low (omega arith) k.0, unmarked_low high (omega arith) k.1)
-
 -- an `or` is clear only if both sides are
 or_unmarked : (a b k : ℕ) → bit_or a b / 2 ^ k % 2 ≡ 0 → (a / 2 ^ k % 2 ≡ 0) × (b / 2 ^ k % 2 ≡ 0)
 or_unmarked a b k z = or_zeros (a / 2 ^ k) (b / 2 ^ k) 1 (rw (← or_shr a b k) z)
@@ -123,9 +116,6 @@ apart : (externals low high more : ℕ) → externals % 2 ^ 32 + low < 2 ^ 32 �
     ((externals + more) % 2 ^ 32 ≡ externals % 2 ^ 32 + low) × ((externals + more) / 2 ^ 32 ≡ externals / 2 ^ 32 + high)
 apart externals low high more fits e = (omega (arith, e), omega (arith, e))
 
-pub top_few : (pair : ℕ) → pair < 2 ^ 64 → (pair % 2 ^ 32 / 2 ^ 31 ≤ 1) × (pair / 2 ^ 32 / 2 ^ 31 ≤ 1)
-top_few pair fits = (omega arith, omega arith)
-
 -- what is counted after one word more of each half: i of each were seen, and at most n are
 pub record Counted (externals i low high more : ℕ) : Type 0 where
   pub fits : externals + more < 2 ^ 64
@@ -134,8 +124,10 @@ pub record Counted (externals i low high more : ℕ) : Type 0 where
   pub lower_few : (externals + more) % 2 ^ 32 ≤ i + 1
   pub higher_few : (externals + more) / 2 ^ 32 ≤ i + 1
 
-pub counted_on : (externals i n low high more : ℕ) → externals % 2 ^ 32 ≤ i → externals / 2 ^ 32 ≤ i → i < n → n ≤ 2048 → (low ≤ 1) × (high ≤ 1) → more ≡ beside low high →
-    Counted externals i low high more
-counted_on externals i n low high more l h below few one e =
-    let k = apart externals low high more (omega arith) e in
+pub pair_counted : (externals i n low high pair more : ℕ) → low < 2 ^ 64 → high < 2 ^ 64 → pair ≡ beside (low / 2 ^ 32) (high / 2 ^ 32)
+    → externals % 2 ^ 32 ≤ i → externals / 2 ^ 32 ≤ i → i < n → n ≤ 2048 → more ≡ beside (pair % 2 ^ 32 / 2 ^ 31) (pair / 2 ^ 32 / 2 ^ 31)
+    → Counted externals i (pair % 2 ^ 32 / 2 ^ 31) (pair / 2 ^ 32 / 2 ^ 31) more
+pair_counted externals i n low high pair more l h p few many below room e =
+    let one : (pair % 2 ^ 32 / 2 ^ 31 ≤ 1) × (pair / 2 ^ 32 / 2 ^ 31 ≤ 1) = (omega arith, omega (arith, pair_parts low high pair l h p)) in
+    let k = apart externals _ _ more (omega arith) e in
     record { fits = omega (arith, e); lower = k.0; higher = k.1; lower_few = omega (arith, k.0); higher_few = omega (arith, k.1) }

@@ -2,6 +2,7 @@
 --     step_read, step_refused              what a step makes of what a row says
 --     step_next, step_goes_on, step_stop   what a loop over the nodes does
 --     pass_each, all_pass                  a pass accepts exactly if it has read and judged every node
+--     said_pass                            a pass, by what is said of its values
 --     passing_none, -on, -stops, -ends     a loop over the nodes, from its invariant to what it answers
 -- Assumes nothing.
 use mathlib.Core.Path.{◌≡◌, refl, sym, ◌∙◌}
@@ -95,18 +96,33 @@ all_pass read judge state (suc n) each =
     let here = each n (omega arith) in
     rw (all_pass read judge state n (λ i h. each i (omega arith)), here.1.0, here.1.1) refl
 
+-- an accepted value, by what it says
+abbrev pub said : {A B : Type 0} → (A → B) → Outcome A → Outcome B
+said says (refused n p) = refused n p
+said says (accepted v) = accepted (says v)
+
+-- a pass whose judge says, of what it hands on, what another judge does
+pub said_pass : {A B : Type 0} (says : A → B) (read : ℕ → Outcome MastNodeEntry) (judge : ℕ → A → MastNodeEntry → Outcome A) (judge' : ℕ → B → MastNodeEntry → Outcome B)
+    → ((i : ℕ) (before : A) (e : MastNodeEntry) → said says (judge i before e) ≡ judge' i (says before) e)
+    → (start : A) (n : ℕ) → said says (node_pass read judge start n) ≡ node_pass read judge' (says start) n
+unfolding node_pass ◌>>=◌
+said_pass says read judge judge' same start zero = refl
+said_pass says read judge judge' same start (suc n) = rw (← said_pass says read judge judge' same start n) (step (node_pass read judge start n))
+  where
+    turn : (o : Outcome MastNodeEntry) (before : _) → said says (o >>= judge n before) ≡ (o >>= judge' n (says before))
+    turn (refused k p) before = refl
+    turn (accepted e) before = same n before e
+
+    step : (o : Outcome _) → said says (o >>= node_step read judge n) ≡ (said says o >>= node_step read judge' n)
+    step (refused k p) = refl
+    step (accepted before) = turn (read n) before
+
 -- What a loop over n nodes knows at node i: the nodes before it passed, and handed this on.
 abbrev pub Passing : {A : Type 0} → (ℕ → Outcome MastNodeEntry) → (ℕ → A → MastNodeEntry → Outcome A) → A → ℕ → ℕ → A → Type 0
 Passing read judge start n i before = (i ≤ n) × (node_pass read judge start i ≡ accepted before)
 
 module _ {A : Type 0} (read : ℕ → Outcome MastNodeEntry) (judge : ℕ → A → MastNodeEntry → Outcome A) (start : A) (n : ℕ) where
-  pub passing_none : Passing read judge start n 0 start
-  passing_none = (omega arith, pass_none read judge start)
-
   module _ (i : ℕ) (before : A) (so_far : Passing read judge start n i before) where
-    pub passing_ends : n ≤ i → accepted before ≡ node_pass read judge start n
-    passing_ends h = let e : i ≡ n = omega arith in rw e at (sym so_far.1)
-
     -- x is what the turn of node i says
     module _ (h : i < n) (x : Outcome A) (said : x ≡ node_step read judge i before) where
       pub passing_stops : (k p : ℕ) → x ≡ refused k p → refused k p ≡ node_pass read judge start n

@@ -1,25 +1,22 @@
 -- Rows of a section by their number, and the pass over the nodes.
-use Rattle.std.specs.Prelude.{ℕ, zero, suc, ◌+◌, ◌*◌, ◌/◌, ◌%◌, ◌^◌, ◌<◌, ◌≤◌, ◌≡◌, Bool, List, ◌∷◌, get_or}
+use Rattle.std.specs.Prelude.{ℕ, zero, suc, ◌+◌, ◌*◌, ◌/◌, ◌%◌, ◌^◌, ◌<◌, ◌≤◌, ◌≡◌, Bool, List, ◌∷◌, get_or, Option, Some, None}
 use Rattle.wire.specs.Table.{Rule, rule, Outcome, accepted, pick, first_met, ◌>>=◌}
 use Rattle.wire.specs.Refusals.{SHORT, OVERFLOW}
 use Rattle.wire.specs.Le.{le_at, is_short, over}
+use Rattle.wire.specs.declared.units.ByteOffset.{ByteOffset}
 use Rattle.info.specs.Node.{is_external}
 use Rattle.info.specs.Entry.{entry_of, decode_rules, decode_outcome}
 use Rattle.info.specs.declared.MastNodeEntry.{MastNodeEntry}
-use Rattle.rows.specs.declared.RowPlace.{RowPlace}
-use Rattle.rows.specs.declared.RowPlace.TheVariants.{At, Over}
-use Rattle.rows.specs.declared.Survey.{Survey}
-use Rattle.rows.specs.declared.Survey.TheVariants.{Clean, Doubtful}
 
--- where row i of rows of some size starts, and whether its end is above 2 ^ 64 - 1
+-- where row i of rows of some size starts, and whether its end is above 2 ^ 64 - 1: then it has no place
 abbrev pub row_at : ℕ → ℕ → ℕ → ℕ
 row_at section size i = section + size * i
 
 abbrev pub row_over : ℕ → ℕ → ℕ → Bool
 row_over section size i = over (row_at section size i + size)
 
-abbrev pub row_place : ℕ → ℕ → ℕ → RowPlace
-row_place section size i = pick (row_over section size i) Over (At (record { 0 = row_at section size i }))
+abbrev pub row_place : ℕ → ℕ → ℕ → Option ByteOffset
+row_place section size i = pick (row_over section size i) None (Some (record { 0 = row_at section size i }))
 
 -- ---- the entry in row i of the rows of 8 bytes from `first` on
 
@@ -63,18 +60,17 @@ entry_pass read n = node_pass read count_external 0 n
 
 -- ---- inner contracts only: what the loops hand to each other
 
--- the first i rows have entries, and some of them are External
+-- the first i nodes have entries, and some of them are External
 abbrev pub Begun : (ℕ → Outcome MastNodeEntry) → ℕ → ℕ → Type 0
 Begun read i externals = (externals ≤ i) × (entry_pass read i ≡ accepted externals)
 
--- the rows from one to another have entries, and so many of them are External
+-- the nodes from one to another have entries, and so many of them are External
 abbrev pub Onward : (ℕ → Outcome MastNodeEntry) → ℕ → ℕ → ℕ → Type 0
 Onward read from to more = (before : ℕ) → Begun read from before → Begun read to (before + more)
 
--- what a survey says of the rows from one to another
-abbrev pub Sound : Survey → (ℕ → Outcome MastNodeEntry) → ℕ → ℕ → Type 0
-Sound (Clean more) read from to = Onward read from to more
-Sound Doubtful read from to = Unit {0}
+-- a strip of nodes, from one on, of n: where it ends, and how many of it are External
+abbrev pub Strip : (ℕ → Outcome MastNodeEntry) → ℕ → ℕ → ℕ × ℕ → Type 0
+Strip read from n strip = (from < strip.0) × ((strip.0 ≤ n) × Onward read from strip.0 strip.1)
 
 -- where the upper half of a word has a tag of 2 to 5, no bit of the payload lies there
 abbrev pub Narrow : ℕ → Type 0

@@ -1,157 +1,223 @@
 // Rows of a section by their number: where a row lies, the entry in a row, and the pass over all
-// entries, of a file or of words. The pass is quick where nothing is wrong: strips of rows are surveyed
+// entries, of a file or of words. The pass is quick where nothing is wrong: strips of nodes are surveyed
 // without a branch, and the plain loop goes on from the first strip in doubt, so a doubt costs time and
 // never truth.
 #![tactic(auto)]
 
-ghost use Rattle.std.specs.Prelude.{◌≡◌, ◌+◌, ◌*◌, ◌/◌, ◌%◌, ◌^◌, ◌<◌, ◌≤◌, length};
+ghost use Rattle.std.specs.Prelude.{◌≡◌, ◌↔◌, ℕ, ◌+◌, ◌*◌, ◌/◌, ◌%◌, ◌^◌, ◌<◌, ◌≤◌, length, IsTrue, IfSome};
+ghost use Rattle.wire.specs.Table.{Outcome};
 ghost use Rattle.wire.specs.Le.{le_at};
-ghost use Rattle.rows.specs.Rows.{row_place, row_outcome, word_read, external_one, entry_pass, Begun, Sound, Narrow, beside, Clear};
+ghost use Rattle.info.specs.declared.MastNodeEntry.{MastNodeEntry};
+ghost use Rattle.rows.specs.Rows.{row_place, row_outcome, word_read, external_one, entry_pass, Begun, Onward, Strip, Narrow, beside, Clear};
 ghost use Rattle.rows.specs.Shown.{shown_row, shown_pass};
 
 use info::node::is_external;
-use info::{Decoded, EntryRead, MastNodeEntry, decode_entry, read_entry};
-use wire::refusal::Refusal;
+use info::{MastNodeEntry, decode_entry, read_entry};
+use wire::refusal::{Refusal, Refused};
 use wire::units::ByteOffset;
 
-const MAX: usize = 0xFFFF_FFFF_FFFF_FFFF;
-
-// Rows to a strip of the survey.
+// Nodes to a strip of the survey.
 const STRIP: usize = 4096;
 
 // The least upper half of a word with a tag that there is not.
 const NO_TAG: u32 = 0x9000_0000;
 
-// Where a row starts, or that its end is above 2^64 - 1.
-#[derive(Clone, Copy)]
-pub enum RowPlace {
-    At(ByteOffset),
-    Over,
-}
-
-// The entry in a row, or why there is none, with the row's number.
-#[derive(Clone, Copy)]
-pub enum RowEntry {
-    Entry(MastNodeEntry),
-    Refused(Refusal, usize),
-}
-
-// Every row has an entry, so many of them External; or the first refusal, with the row's number.
-#[derive(Clone, Copy)]
-pub enum EntryPass {
-    Clean(usize),
-    Refused(Refusal, usize),
-}
-
-// What a survey says: every row has an entry, so many of them External; or nothing.
-#[derive(Clone, Copy)]
-enum Survey {
-    Clean(u32),
-    Doubtful,
-}
-
-// Where row `index` of rows of `size` bytes lies. Nothing is added that could wrap.
-pub fn row_place(section: ByteOffset, size: usize, index: usize) -> RowPlace
+// Where row `index` of rows of `size` bytes starts; nothing if its end is above 2^64 - 1.
+#[tactic(auto, using(crate::proofs::RowLaws::past_last))]
+pub fn row_place(section: ByteOffset, size: usize, index: usize) -> Option<ByteOffset>
     ensures { result ≡ row_place section.0 size index }
 {
     let from = section.0;
-    if MAX - from < size {
-        return RowPlace::Over;
+    // The last row is the same for each, so a loop works it out once: with a product and two sums that
+    // are tested in each row, the checks of all nodes took a sixth more time. Of rows of no bytes any is there.
+    let room = (usize::MAX - from).checked_sub(size)?;
+    let last = room.checked_div(size).unwrap_or(usize::MAX);
+    if last < index {
+        return None;
     }
-    if size == 0 {
-        return RowPlace::At(section);
-    }
-    if (MAX - from - size) / size < index {
-        return RowPlace::Over;
-    }
-    RowPlace::At(ByteOffset(from + size * index))
+    Some(ByteOffset(from + size * index))
 }
 
-// The entry in row i of the rows from `first` on.
-pub fn row_entry(s: &[u8], first: ByteOffset, i: usize) -> RowEntry
+// The entry in row i of the rows from `first` on, or why there is none, with the row's number.
+#[tactic(auto, using(crate::proofs::RowLaws::placed_over, crate::proofs::RowLaws::row_over_lem))]
+pub fn row_entry(s: &[u8], first: ByteOffset, i: usize) -> Result<MastNodeEntry, Refused<usize>>
     ensures { shown_row result ≡ row_outcome s.now first.0 i }
 {
-    match row_place(first, 8, i) {
-        RowPlace::Over => RowEntry::Refused(Refusal::Overflow, i),
-        RowPlace::At(at) => match read_entry(s, at) {
-            EntryRead::Entry(entry, _) => RowEntry::Entry(entry),
-            EntryRead::Refused(why, _) => RowEntry::Refused(why, i),
-        },
-    }
+    let Some(at) = row_place(first, 8, i) else {
+        return Err(Refused {
+            why: Refusal::Overflow,
+            at: i,
+        });
+    };
+    let (entry, _) = read_entry(s, at).map_err(|refused| refused.told_at(i))?;
+    Ok(entry)
 }
 
 // 1 for an External, else 0.
 pub fn external_one(entry: MastNodeEntry) -> usize
     ensures { result ≡ external_one entry }
 {
-    if is_external(entry) {
-        return 1;
-    }
-    0
+    usize::from(is_external(entry))
 }
 
-// The plain pass from row `from` on, after `before` externals: one entry at a time.
-fn read_from(s: &[u8], first: ByteOffset, from: usize, n: usize, before: usize) -> EntryPass
-    requires { (from ≤ n) × Begun (row_outcome s.now first.0) from before }
-    ensures { shown_pass result ≡ entry_pass (row_outcome s.now first.0) n }
+// Nodes by their number.
+trait Nodes {
+    // how many there are, and what each reads as
+    ghost count: { Self → ℕ };
+
+    ghost read: { Self → ℕ → Outcome MastNodeEntry };
+
+    fn len(&self) -> usize
+        ensures { result ≡ count self.now };
+
+    fn entry(&self, i: usize) -> Result<MastNodeEntry, Refused<usize>>
+        requires { i < count self.now }
+        ensures { shown_row result ≡ read self.now i };
+
+    // Where a strip of nodes from `from` on ends, every one of which has an entry, and how many of them are External.
+    fn survey(&self, from: usize) -> Option<(usize, u32)>
+        requires { from < count self.now }
+        ensures { IfSome result (Strip (read self.now) from (count self.now)) };
+}
+
+// The n rows of a file from `first` on, and whether they are known to lie in the file.
+#[derive(Clone, Copy)]
+struct Rows<'a> {
+    s: &'a [u8],
+    first: ByteOffset,
+    n: usize,
+    inside: bool,
+    ghost fit: { IsTrue inside → first.0 + 8 * n ≤ length s.now },
+}
+
+impl<'a> Nodes for Rows<'a> {
+    ghost count = { λ rows. rows.n };
+
+    ghost read = { λ rows. row_outcome rows.s.now rows.first.0 };
+
+    fn len(&self) -> usize {
+        self.n
+    }
+
+    fn entry(&self, i: usize) -> Result<MastNodeEntry, Refused<usize>> {
+        row_entry(self.s, self.first, i)
+    }
+
+    fn survey(&self, from: usize) -> Option<(usize, u32)> {
+        if !self.inside {
+            return None;
+        }
+        let to = from + STRIP.min(self.n - from);
+        let externals = survey_rows(self.s, self.first, from, to)?;
+        Some((to, externals))
+    }
+}
+
+// The words of entries that no file holds yet.
+#[derive(Clone, Copy)]
+struct Words<'a> {
+    words: &'a [u64],
+}
+
+impl<'a> Nodes for Words<'a> {
+    ghost count = { λ nodes. length nodes.words.now };
+
+    ghost read = { λ nodes. word_read nodes.words.now };
+
+    fn len(&self) -> usize {
+        self.words.len()
+    }
+
+    fn entry(&self, i: usize) -> Result<MastNodeEntry, Refused<usize>> {
+        decode_entry(self.words[i]).map_err(|refused| refused.told_at(i))
+    }
+
+    fn survey(&self, from: usize) -> Option<(usize, u32)> {
+        let n = (STRIP / 2).min((self.words.len() - from) / 2);
+        if n == 0 {
+            return None;
+        }
+        let externals = survey_words(self.words, from, n)?;
+        Some((from + n + n, externals))
+    }
+}
+
+// The plain pass from node `from` on, after `before` externals: one entry at a time.
+#[tactic(auto, using(crate::proofs::Pass::external_le))]
+fn read_from<N: Nodes>(nodes: &N, from: usize, before: usize) -> Result<usize, Refused<usize>>
+    requires { (from ≤ N.count nodes.now) × Begun (N.read nodes.now) from before }
+    ensures { shown_pass result ≡ entry_pass (N.read nodes.now) (N.count nodes.now) }
 {
     let mut externals = before;
-    for i in from..n {
-        match row_entry(s, first, i) {
-            RowEntry::Entry(entry) => {
-                externals += external_one(entry);
-            }
-            RowEntry::Refused(why, at) => {
-                return EntryPass::Refused(why, at);
-            }
-        }
+    for i in from..nodes.len() {
+        externals += external_one(nodes.entry(i)?);
     }
-    EntryPass::Clean(externals)
+    Ok(externals)
 }
 
-// The entries of n rows from first to last, by the plain pass alone.
-pub fn read_each(s: &[u8], first: ByteOffset, n: usize) -> EntryPass
+// The quick pass: strip by strip, and plainly what no survey is sure of.
+#[tactic(auto, using(crate::proofs::Pass::pass_none))]
+fn read_quickly<N: Nodes>(nodes: &N) -> Result<usize, Refused<usize>>
+    ensures { shown_pass result ≡ entry_pass (N.read nodes.now) (N.count nodes.now) }
+{
+    let mut externals: usize = 0;
+    let mut from = 0;
+    while from < nodes.len() {
+        let Some((to, more)) = nodes.survey(from) else {
+            return read_from(nodes, from, externals);
+        };
+        externals += more as usize;
+        from = to;
+    }
+    Ok(externals)
+}
+
+// How many of the n rows from `first` on are External, by the plain pass alone; or the first refusal, with the row's number.
+#[tactic(auto, using(crate::proofs::Pass::pass_none))]
+pub fn read_each(s: &[u8], first: ByteOffset, n: usize) -> Result<usize, Refused<usize>>
     ensures { shown_pass result ≡ entry_pass (row_outcome s.now first.0) n }
 {
-    read_from(s, first, 0, n, 0)
+    let inside = false;
+    read_from(
+        &Rows {
+            s,
+            first,
+            n,
+            inside,
+        },
+        0,
+        0,
+    )
 }
 
-fn wide(x: u8) -> u64
-    ensures { (result ≡ x) × (result < 256) }
+// The same by the quick pass.
+pub fn read_entries(s: &[u8], first: ByteOffset, n: usize) -> Result<usize, Refused<usize>>
+    ensures { shown_pass result ≡ entry_pass (row_outcome s.now first.0) n }
 {
-    x as u64
+    let inside = first.0 <= s.len() && n <= (s.len() - first.0) / 8;
+    read_quickly(&Rows {
+        s,
+        first,
+        n,
+        inside,
+    })
 }
 
-// The word of 8 bytes, with no test of room, which would keep the survey from becoming vector code; and as one flat sum,
-// which becomes one load in the forwarder below, before that is inlined.
-fn word_in(s: &[u8], at: usize) -> u64
-    requires { at + 8 ≤ length s.now }
-    ensures { result ≡ le_at s.now at 8 }
+// The same of words that no file holds yet.
+pub fn read_words(words: &[u64]) -> Result<usize, Refused<usize>>
+    ensures { shown_pass result ≡ entry_pass (word_read words.now) (length words.now) }
 {
-    wide(s[at])
-        + wide(s[at + 1]) * 0x100
-        + wide(s[at + 2]) * 0x1_0000
-        + wide(s[at + 3]) * 0x100_0000
-        + wide(s[at + 4]) * 0x1_0000_0000
-        + wide(s[at + 5]) * 0x100_0000_0000
-        + wide(s[at + 6]) * 0x1_0000_0000_0000
-        + wide(s[at + 7]) * 0x100_0000_0000_0000
+    read_quickly(&Words { words })
 }
 
-fn word(s: &[u8], at: usize) -> u64
-    requires { at + 8 ≤ length s.now }
-    ensures { result ≡ le_at s.now at 8 }
-{
-    word_in(s, at)
-}
-
-// The upper half of a word. The tag, which is the kind, with its bit of External, and all of a payload that can be too long
-// lie there.
+// The upper half of a row's word, with no test of room, which would keep the survey from becoming vector code. The tag, which is
+// the kind, with its bit of External, and all of a payload that can be too long lie there.
+#[tactic(auto, using(wire::proofs::Numbers::eight_bytes))]
 fn upper(s: &[u8], at: usize) -> u32
     requires { at + 8 ≤ length s.now }
     ensures { result ≡ le_at s.now at 8 / 2 ^ 32 }
 {
-    (word(s, at) / 0x1_0000_0000) as u32
+    u32::from_le_bytes([s[at + 4], s[at + 5], s[at + 6], s[at + 7]])
 }
 
 // The upper half where the tag is 2 to 5, whose payload has 32 bits; else a number whose lower bits say nothing. A clamp is
@@ -159,29 +225,14 @@ fn upper(s: &[u8], at: usize) -> u32
 fn single(half: u32) -> u32
     ensures { 2 * 2 ^ 28 ≤ half → half < 6 * 2 ^ 28 → result ≡ half }
 {
-    if half < 0x2000_0000 {
-        return 0x2000_0000;
-    }
-    if 0x6000_0000 < half {
-        return 0x6000_0000;
-    }
-    half
-}
-
-fn larger(a: u32, b: u32) -> u32
-    ensures { (a ≤ result) × (b ≤ result) }
-{
-    if a < b {
-        return b;
-    }
-    a
+    half.clamp(0x2000_0000, 0x6000_0000)
 }
 
 // A strip of rows inside the file, with no branch and no early end, so that it compiles to vector code.
 // What it gathers can only show that all is well, and that is all it promises.
-fn survey_rows(s: &[u8], first: ByteOffset, from: usize, to: usize) -> Survey
+fn survey_rows(s: &[u8], first: ByteOffset, from: usize, to: usize) -> Option<u32>
     requires { (from ≤ to) × ((to ≤ from + 4096) × (first.0 + 8 * to ≤ length s.now)) }
-    ensures { Sound result (row_outcome s.now first.0) from to }
+    ensures { IfSome result (Onward (row_outcome s.now first.0) from to) }
 {
     let base = first.0;
     let mut externals: u32 = 0;
@@ -190,59 +241,14 @@ fn survey_rows(s: &[u8], first: ByteOffset, from: usize, to: usize) -> Survey
     for i in from..to {
         let half = upper(s, base + 8 * i);
         externals += half / 0x8000_0000;
-        singles = singles | single(half);
-        top = larger(top, half);
+        singles |= single(half);
+        top = top.max(half);
     }
-    if singles % 0x1000_0000 == 0 {
-        if top < NO_TAG {
-            return Survey::Clean(externals);
-        }
+    if singles % 0x1000_0000 == 0 && top < NO_TAG {
+        Some(externals)
+    } else {
+        None
     }
-    Survey::Doubtful
-}
-
-fn smaller(a: usize, b: usize) -> usize
-    requires { (0 < a) × (0 < b) }
-    ensures { (0 < result) × ((result ≤ a) × (result ≤ b)) }
-{
-    if a < b {
-        return a;
-    }
-    b
-}
-
-// The entries of n rows inside the file: strip by strip, and plainly from the first strip in doubt.
-fn read_strips(s: &[u8], first: ByteOffset, n: usize) -> EntryPass
-    requires { first.0 + 8 * n ≤ length s.now }
-    ensures { shown_pass result ≡ entry_pass (row_outcome s.now first.0) n }
-{
-    let mut externals: usize = 0;
-    let mut i = 0;
-    while i < n {
-        let to = i + smaller(STRIP, n - i);
-        match survey_rows(s, first, i, to) {
-            Survey::Clean(more) => {
-                externals += more as usize;
-                i = to;
-            }
-            Survey::Doubtful => {
-                return read_from(s, first, i, n, externals);
-            }
-        }
-    }
-    EntryPass::Clean(externals)
-}
-
-// The entries of n rows from first to last.
-pub fn read_entries(s: &[u8], first: ByteOffset, n: usize) -> EntryPass
-    ensures { shown_pass result ≡ entry_pass (row_outcome s.now first.0) n }
-{
-    if first.0 <= s.len() {
-        if n <= (s.len() - first.0) / 8 {
-            return read_strips(s, first, n);
-        }
-    }
-    read_each(s, first, n)
 }
 
 // The upper halves of two words side by side.
@@ -253,6 +259,7 @@ fn side_by_side(low: u64, high: u64) -> u64
 }
 
 // Half of each. What is left free above it takes the carry of a sum.
+#[tactic(auto, using(crate::proofs::Pairs::pair_halved))]
 fn halved(pair: u64) -> u64
     ensures { result ≡ beside (pair % 2 ^ 32 / 2) (pair / 2 ^ 32 / 2) }
 {
@@ -260,6 +267,7 @@ fn halved(pair: u64) -> u64
 }
 
 // The top bit of each.
+#[tactic(auto, using(crate::proofs::Pairs::pair_tops))]
 fn top_bits(pair: u64) -> u64
     ensures { result ≡ beside (pair % 2 ^ 32 / 2 ^ 31) (pair / 2 ^ 32 / 2 ^ 31) }
 {
@@ -268,6 +276,7 @@ fn top_bits(pair: u64) -> u64
 
 // Bit 29 of each is set where the tag is 2 to 5 and the payload is wide: the first sum has it for these tags and no other below 9,
 // the second for these payloads. Sums, since the vectors of x86-64 have no comparison of unsigned numbers.
+#[tactic(auto, using(crate::proofs::Pairs::pair_masked, crate::proofs::Pairs::clear_narrow))]
 fn wide_marks(pair: u64, halves: u64) -> u64
     requires { halves ≡ beside (pair % 2 ^ 32 / 2) (pair / 2 ^ 32 / 2) }
     ensures { Clear 29 result → Narrow (pair % 2 ^ 32) × Narrow (pair / 2 ^ 32) }
@@ -283,10 +292,18 @@ fn high_marks(pair: u64, halves: u64) -> u64
     halves + 0x3800_0000_3800_0000
 }
 
+// Whether a bit is set in neither.
+fn is_clear(pair: u64, bit: u32) -> bool
+    requires { bit < 32 }
+    ensures { IsTrue result ↔ Clear bit pair }
+{
+    pair >> bit & 1 == 0 && pair >> (bit + 32) & 1 == 0
+}
+
 // A strip of 2 n words, as `survey_rows`; the words of its two halves go by in pairs, so that four fill a vector.
-fn survey_words(words: &[u64], from: usize, n: usize) -> Survey
+fn survey_words(words: &[u64], from: usize, n: usize) -> Option<u32>
     requires { (n ≤ 2048) × (from + n + n ≤ length words.now) }
-    ensures { Sound result (word_read words.now) from (from + n + n) }
+    ensures { IfSome result (Onward (word_read words.now) from (from + n + n)) }
 {
     let mut externals: u64 = 0;
     let mut wides: u64 = 0;
@@ -295,61 +312,12 @@ fn survey_words(words: &[u64], from: usize, n: usize) -> Survey
         let pair = side_by_side(words[from + i], words[from + n + i]);
         let halves = halved(pair);
         externals += top_bits(pair);
-        wides = wides | wide_marks(pair, halves);
-        highs = highs | high_marks(pair, halves);
+        wides |= wide_marks(pair, halves);
+        highs |= high_marks(pair, halves);
     }
-    if wides / 0x2000_0000 % 2 == 0 {
-        if wides / 0x2000_0000_0000_0000 % 2 == 0 {
-            if highs / 0x8000_0000 % 2 == 0 {
-                if highs / 0x8000_0000_0000_0000 % 2 == 0 {
-                    return Survey::Clean(
-                        (externals % 0x1_0000_0000 + externals / 0x1_0000_0000) as u32,
-                    );
-                }
-            }
-        }
+    if is_clear(wides, 29) && is_clear(highs, 31) {
+        Some((externals % 0x1_0000_0000 + externals / 0x1_0000_0000) as u32)
+    } else {
+        None
     }
-    Survey::Doubtful
-}
-
-// The plain pass over words, from number `from` on, after `before` externals.
-fn read_words_from(words: &[u64], from: usize, before: usize) -> EntryPass
-    requires { (from ≤ length words.now) × Begun (word_read words.now) from before }
-    ensures { shown_pass result ≡ entry_pass (word_read words.now) (length words.now) }
-{
-    let mut externals = before;
-    let mut i = from;
-    while i < words.len() {
-        match decode_entry(words[i]) {
-            Decoded::Entry(entry) => {
-                externals += external_one(entry);
-            }
-            Decoded::Refused(why, _) => {
-                return EntryPass::Refused(why, i);
-            }
-        }
-        i += 1;
-    }
-    EntryPass::Clean(externals)
-}
-
-// The entries of all words from first to last: strip by strip, and plainly the last of an odd number or from the first strip in doubt.
-pub fn read_words(words: &[u64]) -> EntryPass
-    ensures { shown_pass result ≡ entry_pass (word_read words.now) (length words.now) }
-{
-    let mut externals: usize = 0;
-    let mut i = 0;
-    while 2 <= words.len() - i {
-        let n = smaller(STRIP / 2, (words.len() - i) / 2);
-        match survey_words(words, i, n) {
-            Survey::Clean(more) => {
-                externals += more as usize;
-                i = i + n + n;
-            }
-            Survey::Doubtful => {
-                return read_words_from(words, i, externals);
-            }
-        }
-    }
-    read_words_from(words, i, externals)
 }

@@ -4,4 +4,3 @@ pub mod Lines
 pub mod DigitLaws
 pub mod ReadBack
 pub mod Marks
-pub mod Answers

@@ -1,18 +1,21 @@
 -- The laws of texts: stores in a row, the step of a text with holes, and what a write into a buffer leaves.
 -- Assumes nothing.
 use mathlib.Core.Path.{◌≡◌, refl, sym, ap, ◌∙◌}
+use mathlib.Core.Bool.{Bool, true, false}
 use mathlib.Core.List.{List, [], ◌∷◌, ◌++◌}
-use Prim.Native.Nat.{ℕ, zero, suc, ◌+◌, ◌-◌, ◌/◌, ◌%◌, ◌^◌, ◌≤◌, ◌<◌}
+use Prim.Native.Nat.{ℕ, suc, ◌+◌, ◌-◌, ◌/◌, ◌%◌, ◌≤◌, ◌<◌}
 use native.Mathlib.Omega.{arith}
-use native.Mathlib.Nat.{add-zero, zero-add}
+use native.Mathlib.Nat.{add-zero, zero-add, add_comm}
 use native.Mathlib.Numerals.{add-one}
 use borrow.Author.Tests.{lt-ltb, le-ltb, eq-eqb, ne_eqb}
-use lib.ListN.{length, get_or, set, drop, length-append}
+use lib.Dec.{eqb}
+use lib.ListN.{length, get_or, set, drop, length-append, drop_of_length-le}
+use Rattle.std.proofs.lemmas.Grind.{get_or_after_one}
 use lib.Seq.{sets, sets-eq, set_comm, drop-cons}
-use Rattle.wire.specs.Table.{Outcome, refused, accepted, first_met}
+use Rattle.wire.specs.Table.{Outcome, refused, accepted, first_met, pick}
 use Rattle.wire.specs.Refusals.{ROOM, OVERFLOW}
-use Rattle.text.specs.Text.{digit, decimal, hole, piece, holes_past, filled_from, filled, text_outcome, with_text, longest, filled_outcome, with_filled}
-use Rattle.text.proofs.Decimals.{decimal_small, decimal_step, count_step}
+use Rattle.text.specs.Text.{digit, decimal_in, decimal, hole, piece, holes_past, filled_from, filled, text_outcome, with_text, longest, filled_outcome, with_filled}
+use Rattle.text.proofs.Decimals.{fitting, last_digit}
 
 -- ---- stores
 
@@ -30,85 +33,112 @@ sets_last l i (x ∷ xs) y =
     let n : i ≡ suc i + length xs → ⊥ = λ q. omega arith in
     rw e (sets_last (set l i x) (suc i) xs y ∙ ap (λ s. sets s (suc i) xs) (set_comm l i (suc i + length xs) x y n))
 
--- the digits of a number from `at` on: the last one at the end before p, and then those of a tenth
-pub store_digit : (l : List ℕ) (at p n : ℕ) → n < 2 ^ 64 → 10 ≤ n → p ≡ at + length (decimal n) → sets l at (decimal n) ≡ sets (set l (p - 1) (digit (n % 10))) at (decimal (n / 10))
-store_digit l at p n h g e =
-    let q : p - 1 ≡ at + length (decimal (n / 10)) = omega (arith, count_step n h g) in
-    rw (q, decimal_step n h g) (sets_last l at (decimal (n / 10)) (digit (n % 10)))
+-- of the digits of n from `at` on, those of rest are still to be stored, up to p
+pub record Left (out all : List ℕ) (at p rest n : ℕ) : Type 0 where
+  pub fits : length (decimal_in (p - at) rest) ≡ p - at
+  pub same : sets out at (decimal_in (p - at) rest) ≡ sets all at (decimal n)
 
-pub store_small : (l : List ℕ) (at n : ℕ) → n < 10 → sets l at (decimal n) ≡ set l at (digit n)
-store_small l at n h = rw (decimal_small n h)
+pub all_left : (out : List ℕ) (at p n : ℕ) → p ≡ at + length (decimal n) → Left out out at p n n
+all_left out at p n h =
+    let e : p - at ≡ length (decimal n) = omega arith in
+    record { fits = rw e (ap length (fitting n)); same = rw (e, fitting n) }
+
+-- the last one is stored
+pub one_less : (out all : List ℕ) (at p rest n : ℕ) → at < p → Left out all at p rest n → Left (set out (p - 1) (digit (rest % 10))) all at (p - 1) (rest / 10) n
+one_less out all at p rest n h l =
+    let k = p - 1 - at in
+    let e : p - at ≡ suc k = omega arith in
+    let q : at + k ≡ p - 1 = omega arith in
+    let d = last_digit k rest (rw e at l.fits) in
+    let s = rw (d.1, q) at (sets_last out at (decimal_in k (rest / 10)) (digit (rest % 10))) in
+    record { fits = d.1; same = sym s ∙ ap (sets out at) (sym d.0) ∙ (rw e at l.same) }
+
+pub none_left : (out all : List ℕ) (at p rest n : ℕ) → p ≤ at → Left out all at p rest n → out ≡ sets all at (decimal n)
+unfolding decimal_in
+none_left out all at p rest n h l =
+    let e : p - at ≡ 0 = omega arith in
+    rw e at l.same
 
 -- ---- a text with holes
-
-pub piece_hole : (b n : ℕ) → b ≡ hole → piece b n ≡ decimal n
-unfolding piece
-piece_hole b n h = rw (eq-eqb b hole h)
 
 pub piece_plain : (b n : ℕ) → (b ≡ hole → ⊥) → piece b n ≡ b ∷ []
 unfolding piece
 piece_plain b n h = rw (ne_eqb b hole h)
 
-pub past_hole : (b k : ℕ) → b ≡ hole → holes_past b k ≡ k + 1
-unfolding holes_past
-past_hole b k h = rw (eq-eqb b hole h)
+-- the numbers that are past do not matter
+past_first : (text ns : List ℕ) (k : ℕ) → filled_from (k + 1) text ns ≡ filled_from k text (drop 1 ns)
+unfolding filled_from holes_past
+past_first [] ns k = refl
+past_first (b ∷ text) ns k = by_byte (eqb b hole) (past_first text ns (k + 1)) (past_first text ns k)
+  where
+    by_byte : (m : Bool) → filled_from (k + 1 + 1) text ns ≡ filled_from (k + 1) text (drop 1 ns) → filled_from (k + 1) text ns ≡ filled_from k text (drop 1 ns) →
+        piece b (get_or ns (k + 1) 0) ++ filled_from (pick m (k + 1 + 1) (k + 1)) text ns ≡ piece b (get_or (drop 1 ns) k 0) ++ filled_from (pick m (k + 1) k) text (drop 1 ns)
+    by_byte true i j = rw (i, get_or_after_one ns k 0, add_comm 1 k)
+    by_byte false i j = rw (j, get_or_after_one ns k 0, add_comm 1 k)
 
-pub past_plain : (b k : ℕ) → (b ≡ hole → ⊥) → holes_past b k ≡ k
-unfolding holes_past
-past_plain b k h = rw (ne_eqb b hole h)
+module _ (text ns : List ℕ) (i : ℕ) where
+  -- a text from a hole on: the first number, and the rest with the others; and from any other byte on
+  pub from_hole : i < length text → get_or text i 0 ≡ hole → filled (drop i text) ns ≡ decimal (get_or ns 0 0) ++ filled (drop (i + 1) text) (drop 1 ns)
+  unfolding filled_from holes_past piece
+  from_hole h e = rw (drop-cons text i 0 h, add-one i, eq-eqb (get_or text i 0) hole e, past_first (drop (suc i) text) ns 0)
 
--- the text from i on is its byte at i, and the rest
-pub filled_step : (text numbers : List ℕ) (i k : ℕ) → i < length text →
-    filled_from k (drop i text) numbers ≡ piece (get_or text i 0) (get_or numbers k 0) ++ filled_from (holes_past (get_or text i 0) k) (drop (i + 1) text) numbers
-unfolding filled_from
-filled_step text numbers i k h = rw (drop-cons text i 0 h, add-one)
+  pub from_plain : i < length text → (get_or text i 0 ≡ hole → ⊥) → filled (drop i text) ns ≡ get_or text i 0 ∷ filled (drop (i + 1) text) ns
+  unfolding filled_from holes_past piece
+  from_plain h e = rw (drop-cons text i 0 h, add-one i, ne_eqb (get_or text i 0) hole e)
 
-pub filled_count : (text numbers : List ℕ) (i k : ℕ) → i < length text →
-    length (filled_from k (drop i text) numbers) ≡ length (piece (get_or text i 0) (get_or numbers k 0)) + length (filled_from (holes_past (get_or text i 0) k) (drop (i + 1) text) numbers)
-filled_count text numbers i k h = ap length (filled_step text numbers i k h) ∙ length-append (piece (get_or text i 0) (get_or numbers k 0)) (filled_from (holes_past (get_or text i 0) k) (drop (i + 1) text) numbers)
+  pub from_end : length text ≤ i → filled (drop i text) ns ≡ []
+  unfolding filled_from
+  from_end h = rw (drop_of_length-le text h)
 
-pub filled_end : (text numbers : List ℕ) (i k : ℕ) → length text ≤ i → filled_from k (drop i text) numbers ≡ []
-unfolding filled_from
-filled_end [] numbers zero k h = refl
-filled_end [] numbers (suc i) k h = refl
-filled_end (b ∷ text) numbers zero k h = absurd (omega arith)
-filled_end (b ∷ text) numbers (suc i) k h = filled_end text numbers i k (omega arith)
+  -- how long these are
+  pub long_hole : i < length text → get_or text i 0 ≡ hole → length (filled (drop i text) ns) ≡ length (decimal (get_or ns 0 0)) + length (filled (drop (i + 1) text) (drop 1 ns))
+  long_hole h e = rw (from_hole h e) (length-append (decimal (get_or ns 0 0)) (filled (drop (i + 1) text) (drop 1 ns)))
 
--- one byte of the text is stored: to store the rest after it gives what the store from that byte on gives
-module _ (text numbers out : List ℕ) (at i k n : ℕ) (inside : i < length text) (number : n ≡ get_or numbers k 0) where
-  abbrev here : List ℕ
-  here = piece (get_or text i 0) n
+  pub long_plain : i < length text → (get_or text i 0 ≡ hole → ⊥) → length (filled (drop i text) ns) ≡ 1 + length (filled (drop (i + 1) text) ns)
+  long_plain h e = rw (from_plain h e) (omega arith)
 
-  pub fill_step : (out' : List ℕ) (at' k' : ℕ) → out' ≡ sets out at here → at' ≡ at + length here → k' ≡ holes_past (get_or text i 0) k →
-      sets out' at' (filled_from k' (drop (i + 1) text) numbers) ≡ sets out at (filled_from k (drop i text) numbers)
-  fill_step out' at' k' e p q =
-      rw (e, p, q, filled_step text numbers i k inside, sym number)
-      (sym (sets_append out at here (filled_from (holes_past (get_or text i 0) k) (drop (i + 1) text) numbers)))
+  pub long_end : length text ≤ i → length (filled (drop i text) ns) ≡ 0
+  long_end h = rw (from_end h)
 
-  pub fill_count : (k' : ℕ) → k' ≡ holes_past (get_or text i 0) k → length here + length (filled_from k' (drop (i + 1) text) numbers) ≡ length (filled_from k (drop i text) numbers)
-  fill_count k' q = rw (q, number) (sym (filled_count text numbers i k inside))
+-- to store the rest after a byte of the text gives what the store from that byte on gives
+module _ (text ns out : List ℕ) (i at : ℕ) (inside : i < length text) where
+  pub stored_hole : get_or text i 0 ≡ hole →
+      sets (sets out at (decimal (get_or ns 0 0))) (at + length (decimal (get_or ns 0 0))) (filled (drop (i + 1) text) (drop 1 ns)) ≡ sets out at (filled (drop i text) ns)
+  stored_hole e = rw (from_hole text ns i inside e) (sym (sets_append out at (decimal (get_or ns 0 0)) (filled (drop (i + 1) text) (drop 1 ns))))
 
--- ---- a write into a buffer
+  pub stored_plain : (get_or text i 0 ≡ hole → ⊥) → sets (set out at (get_or text i 0)) (at + 1) (filled (drop (i + 1) text) ns) ≡ sets out at (filled (drop i text) ns)
+  stored_plain e = rw (from_plain text ns i inside e, add-one at)
 
-module _ (out text : List ℕ) where
-  pub no_room_lem : length out < length text → (text_outcome out text ≡ refused ROOM (length text)) × (with_text out text ≡ out)
-  unfolding text_outcome with_text first_met
-  no_room_lem h = (rw (lt-ltb (length out) (length text) h), rw (lt-ltb (length out) (length text) h))
-
-  pub has_room : length text ≤ length out → (text_outcome out text ≡ accepted (length text)) × (with_text out text ≡ sets out 0 text)
-  unfolding text_outcome with_text first_met
-  has_room h = (rw (le-ltb (length out) (length text) h), rw (le-ltb (length out) (length text) h) (sym (rw zero-add at (sets-eq text out 0 (omega arith)))))
-
--- ---- a text with holes is written into a buffer
+-- ---- a text with holes is written into a buffer: what is answered, and what is left there
 
 module _ (out text numbers : List ℕ) where
-  pub too_long : longest < length text → (filled_outcome out text numbers ≡ refused OVERFLOW (length text)) × (with_filled out text numbers ≡ out)
-  unfolding filled_outcome with_filled first_met
-  too_long h = (rw (lt-ltb longest (length text) h), rw (lt-ltb longest (length text) h))
+  pub too_long : longest < length text → filled_outcome out text numbers ≡ refused OVERFLOW (length text)
+  unfolding filled_outcome first_met
+  too_long h = rw (lt-ltb longest (length text) h)
+
+  pub too_long_left : longest < length text → with_filled out text numbers ≡ out
+  unfolding with_filled
+  too_long_left h = rw (lt-ltb longest (length text) h)
 
   pub not_too_long : length text ≤ longest → (filled_outcome out text numbers ≡ text_outcome out (filled text numbers)) × (with_filled out text numbers ≡ with_text out (filled text numbers))
   unfolding filled_outcome with_filled text_outcome first_met
   not_too_long h = (rw (le-ltb longest (length text) h), rw (le-ltb longest (length text) h))
+
+  pub no_room : length text ≤ longest → length out < length (filled text numbers) → filled_outcome out text numbers ≡ refused ROOM (length (filled text numbers))
+  unfolding text_outcome first_met
+  no_room h g = rw ((not_too_long h).0, lt-ltb (length out) (length (filled text numbers)) g)
+
+  pub no_room_left : length text ≤ longest → length out < length (filled text numbers) → with_filled out text numbers ≡ out
+  unfolding with_text
+  no_room_left h g = rw ((not_too_long h).1, lt-ltb (length out) (length (filled text numbers)) g)
+
+  pub has_room : length text ≤ longest → length (filled text numbers) ≤ length out → filled_outcome out text numbers ≡ accepted (length (filled text numbers))
+  unfolding text_outcome first_met
+  has_room h g = rw ((not_too_long h).0, le-ltb (length out) (length (filled text numbers)) g)
+
+  pub has_room_left : length text ≤ longest → length (filled text numbers) ≤ length out → with_filled out text numbers ≡ sets out 0 (filled text numbers)
+  unfolding with_text
+  has_room_left h g = rw ((not_too_long h).1, le-ltb (length out) (length (filled text numbers)) g) (sym (rw zero-add at (sets-eq (filled text numbers) out 0 (omega arith))))
 
   -- of a text that is meant: what was answered and left, as of that text
   pub meant : (said : List ℕ) (o : Outcome ℕ) (after : List ℕ) → length text ≤ longest → filled text numbers ≡ said →
@@ -116,3 +146,5 @@ module _ (out text numbers : List ℕ) where
   meant said o after h e p =
       let k = not_too_long h in
       (p.0 ∙ k.0 ∙ ap (text_outcome out) e, p.1 ∙ k.1 ∙ ap (with_text out) e)
+
+pub ruleset writes = (too_long, too_long_left, no_room, no_room_left, has_room, has_room_left)

@@ -1,9 +1,7 @@
 -- Words of digits, each a list of bytes: bytes in hexadecimal, and a number below 2^64 in decimal. Digits of both cases are taken, and so are
 -- leading zeros of a number; a sign, a space or no digit at all is wrong.
-use Rattle.std.specs.Prelude.{ℕ, ◌+◌, ◌-◌, ◌*◌, ◌%◌, ◌^◌, Bool, false, not, ◌||◌, List, [], ◌∷◌, ltb, leb, eqb, length, get_or}
+use Rattle.std.specs.Prelude.{ℕ, ◌+◌, ◌-◌, ◌*◌, ◌%◌, ◌^◌, Bool, false, not, ◌||◌, Option, None, Some, List, [], ◌∷◌, ltb, leb, eqb, length, get_or}
 use Rattle.wire.specs.Table.{pick}
-use Rattle.text.specs.declared.digits.NumberWord.{NumberWord}
-use Rattle.text.specs.declared.digits.NumberWord.TheVariants as number
 
 -- ---- hexadecimal
 
@@ -33,13 +31,13 @@ hex_wrong digits word = not (eqb (length word) digits) || not_hex word
 -- ---- decimal: its digits are the hexadecimal ones below 10
 
 -- after digits that say `value`: each digit in turn; wrong is what is no digit, and a number of 2^64 or more
-unfoldable pub number_from : ℕ → List ℕ → NumberWord
-number_from value [] = number.Number value
+unfoldable pub number_from : ℕ → List ℕ → Option ℕ
+number_from value [] = Some value
 number_from value (b ∷ word) =
-    pick (leb 10 (hex_digit b)) number.Wrong
-    (pick (leb (2 ^ 64) (10 * value + hex_digit b)) number.Wrong (number_from (10 * value + hex_digit b) word))
+    pick (leb 10 (hex_digit b)) None
+    (pick (leb (2 ^ 64) (10 * value + hex_digit b)) None (number_from (10 * value + hex_digit b) word))
 
 -- no digit at all is wrong
-unfoldable pub number_of_word : List ℕ → NumberWord
-number_of_word [] = number.Wrong
+unfoldable pub number_of_word : List ℕ → Option ℕ
+number_of_word [] = None
 number_of_word (b ∷ word) = number_from 0 (b ∷ word)

@@ -2,51 +2,17 @@
 ghost use Rattle.std.specs.Prelude.{◌≡◌, ◌≤◌, ◌%◌, get_or};
 ghost use Rattle.text.specs.Digits.{hex_digit, hex_byte, hex_wrong, number_of_word};
 
-const MAX: usize = 0xFFFF_FFFF_FFFF_FFFF;
-
-// What a word says in decimal.
-#[derive(Clone, Copy)]
-pub enum NumberWord {
-    Number(usize),
-    Wrong,
-}
-
-// What a hexadecimal digit stands for, and 16 for what is none.
-fn hex_digit(b: u8) -> u8
-    ensures { (result ≡ hex_digit b) × (result ≤ 16) }
-{
-    if b < b'0' {
-        return 16;
-    }
-    if b <= b'9' {
-        return b - 48;
-    }
-    if b < b'A' {
-        return 16;
-    }
-    if b <= b'F' {
-        return b - 55;
-    }
-    if b < b'a' {
-        return 16;
-    }
-    if b <= b'f' {
-        return b - 87;
-    }
-    16
-}
-
 // The half byte at a place; 0 past the end, and for what is no digit.
+#[tactic(auto, using(crate::proofs::DigitLaws::digit_is))]
 fn half_at(word: &[u8], i: usize) -> u8
     ensures { (result ≡ hex_digit (get_or word.now i 0) % 16) × (result ≤ 15) }
 {
-    if i < word.len() {
-        return hex_digit(word[i]) % 16;
-    }
-    0
+    let digit = word.get(i).and_then(|b| char::from(*b).to_digit(16));
+    digit.unwrap_or(0) as u8
 }
 
 // The byte of the two digits from a place on.
+#[tactic(auto, using(crate::proofs::DigitLaws::byte_past), unfolding(crate::specs::Digits::hex_byte))]
 pub fn hex_byte(word: &[u8], i: usize) -> u8
     ensures { result ≡ hex_byte word.now i }
 {
@@ -57,41 +23,25 @@ pub fn hex_byte(word: &[u8], i: usize) -> u8
 }
 
 // Whether a word is not so many hexadecimal digits.
+#[tactic(auto, using(crate::proofs::DigitLaws::hex_wrong_is))]
 pub fn hex_wrong(word: &[u8], digits: usize) -> bool
     ensures { result ≡ hex_wrong digits word.now }
 {
-    if word.len() != digits {
-        return true;
-    }
-    let mut i: usize = 0;
-    while i < word.len() {
-        if 16 <= hex_digit(word[i]) {
-            return true;
-        }
-        i += 1;
-    }
-    false
+    word.len() != digits || word.iter().any(|b| !char::from(*b).is_digit(16))
 }
 
-// The number of a word in decimal.
-pub fn number_of(word: &[u8]) -> NumberWord
+// The number of a word in decimal. (`parse` would take a sign.)
+#[tactic(auto, using(crate::proofs::DigitLaws::decimal_words))]
+pub fn number_of(word: &[u8]) -> Option<usize>
     ensures { result ≡ number_of_word word.now }
 {
-    if word.len() == 0 {
-        return NumberWord::Wrong;
+    if word.is_empty() {
+        return None;
     }
     let mut value: usize = 0;
-    let mut i: usize = 0;
-    while i < word.len() {
-        let d = hex_digit(word[i]) as usize;
-        if 10 <= d {
-            return NumberWord::Wrong;
-        }
-        if (MAX - d) / 10 < value {
-            return NumberWord::Wrong;
-        }
-        value = 10 * value + d;
-        i += 1;
+    for &b in word {
+        let digit = char::from(b).to_digit(10)?;
+        value = value.checked_mul(10)?.checked_add(digit as usize)?;
     }
-    NumberWord::Number(value)
+    Some(value)
 }

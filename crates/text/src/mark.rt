@@ -6,12 +6,8 @@ ghost use Rattle.text.specs.Marks.{before};
 pub fn mark_from(l: &[u8], mark: u8, from: usize) -> usize
     ensures { result ≡ from + length (before mark (drop from l.now)) }
 {
-    let mut i = from;
-    while i < l.len() {
-        if l[i] == mark {
-            return i;
-        }
-        i += 1;
-    }
-    i
+    let Some(rest) = l.get(from..) else {
+        return from;
+    };
+    from + rest.iter().position(|b| *b == mark).unwrap_or(rest.len())
 }

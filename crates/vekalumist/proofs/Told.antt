@@ -1,13 +1,23 @@
--- What is stored and returned is what the clauses of an exported function say of its outcome. Assumes nothing.
-use mathlib.Core.Path.{◌≡◌, sym, ap, ◌∙◌}
-use mathlib.Core.List.{List}
+-- What the clauses of an exported function say of its outcome. Assumes nothing.
+use mathlib.Core.Path.{◌≡◌, refl, sym, ap, ◌∙◌}
 use Prim.Native.Nat.{ℕ}
+use Rattle.std.specs.Prelude.{Result, Ok, Err}
+use Rattle.std.specs.Result.{OnErr}
 use Rattle.wire.specs.Table.{Outcome, refused, accepted}
+use Rattle.wire.specs.Shown.{shown}
+use Rattle.wire.specs.declared.refusal.Refused.{Refused}
 use Rattle.vekalumist.specs.Answers.{number_in, answered, placed}
 
 -- the three clauses: the number, the answer, the place
 abbrev pub Tells : {A : Type 0} → Outcome A → ℕ → A → A → ℕ → ℕ → Type 0
 Tells o number before after from to = (number ≡ number_in o) × ((after ≡ answered before o) × (to ≡ placed from o))
+
+-- where the answer is stored before it is told
+pub stored : {A P : Type 0} (number : P → ℕ) (before after : A) (r : Result (Unit {0}) (Refused P)) (o : Outcome A) (from : ℕ) → shown (λ _. after) number r ≡ o
+    → OnErr r (after ≡ before) → Tells o (number_in (shown (λ u. u) number r)) before after from (placed from (shown (λ u. u) number r))
+unfolding number_in answered placed
+stored number before after (Ok u) o from e kept = rw (← e) (refl, (refl, refl))
+stored number before after (Err r) o from e kept = rw (← e) (refl, (kept, refl))
 
 -- an acceptance: 0, the answer, and the place as it was
 pub accepts : {A : Type 0} {v : A} {o : Outcome A} (before : A) (p : ℕ) → o ≡ accepted v → Tells o 0 before v p p
@@ -18,12 +28,3 @@ accepts before p e = (sym (ap number_in e), (sym (ap (answered before) e), sym (
 pub refuses : {A : Type 0} {n q r at : ℕ} {o : Outcome A} (before : A) (p : ℕ) → o ≡ refused n q → r ≡ n → at ≡ q → Tells o r before before p at
 unfolding number_in answered placed
 refuses before p e f g = (f ∙ sym (ap number_in e), (sym (ap (answered before) e), g ∙ sym (ap (placed p) e)))
-
--- what is told of an outcome is told of an equal one
-pub retells : {A : Type 0} {after : A} {r at : ℕ} {o o' : Outcome A} (before : A) (p : ℕ) → o ≡ o' → Tells o r before after p at → Tells o' r before after p at
-retells before p e t = (t.0 ∙ ap number_in e, (t.1.0 ∙ ap (answered before) e, t.1.1 ∙ ap (placed p) e))
-
--- and beside them what another lent slice holds
-pub beside : {A : Type 0} {after : A} {r at : ℕ} {x y : List ℕ} (o : Outcome A) (before : A) (p : ℕ) → Tells o r before after p at → x ≡ y
-    → (r ≡ number_in o) × ((after ≡ answered before o) × ((at ≡ placed p o) × (x ≡ y)))
-beside o before p t e = (t.0, (t.1.0, (t.1.1, e)))

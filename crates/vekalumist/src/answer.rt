@@ -1,25 +1,54 @@
-// How a refusal is told, and a flag.
-ghost use Rattle.std.specs.Prelude.{◌≡◌};
-ghost use Rattle.wire.specs.Table.{pick};
-ghost use Rattle.wire.specs.Refusals.{number_of};
+// How an answer is told.
+ghost use Rattle.std.specs.Prelude.{◌≡◌, ℕ};
+ghost use Rattle.wire.specs.Shown.{shown};
+ghost use Rattle.vekalumist.specs.Answers.{number_in, answered, placed};
 
-use wire::refusal::{Refusal, refusal_number};
+use wire::refusal::{Refused, refusal_number};
+use wire::units::ByteOffset;
 
-// Stores the place, and gives the number.
-pub(crate) fn refuse(why: Refusal, at: usize, place: &mut u64) -> u64
-    ensures value { result ≡ number_of why }
-    ensures place_after { place.new ≡ at }
-{
-    *place = at as u64;
-    refusal_number(why) as u64
+// Where something is refused, which crosses as a number.
+pub(crate) trait Place: Copy {
+    ghost number: { Self → ℕ };
+
+    fn number(self) -> u64
+        ensures { result ≡ number self };
 }
 
-// A flag as a number.
-pub(crate) fn flag(up: bool) -> u64
-    ensures { result ≡ pick up 1 0 }
-{
-    if up {
-        return 1;
+impl Place for usize {
+    ghost number = { λ n. n };
+
+    fn number(self) -> u64 {
+        self as u64
     }
-    0
+}
+
+impl Place for ByteOffset {
+    ghost number = { λ at. at.0 };
+
+    fn number(self) -> u64 {
+        self.0 as u64
+    }
+}
+
+// Stores what was read, and gives 0; or stores the place of the refusal, and gives its number.
+#[tactic(auto, unfolding(crate::specs::Answers::number_in, crate::specs::Answers::answered, crate::specs::Answers::placed))]
+pub(crate) fn tell<T: Copy, P: Place>(
+    read: Result<T, Refused<P>>,
+    answer: &mut T,
+    place: &mut u64,
+) -> u64
+    ensures value { result ≡ number_in (shown (λ v. v) P.number read) }
+    ensures answer_after { answer.new ≡ answered answer.old (shown (λ v. v) P.number read) }
+    ensures place_after { place.new ≡ placed place.old (shown (λ v. v) P.number read) }
+{
+    match read {
+        Ok(value) => {
+            *answer = value;
+            0
+        }
+        Err(refused) => {
+            *place = refused.at.number();
+            u64::from(refusal_number(refused.why))
+        }
+    }
 }

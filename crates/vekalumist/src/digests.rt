@@ -1,30 +1,12 @@
 // Digests, and the slot table.
 ghost use Rattle.std.specs.Prelude.{◌≡◌, length};
-ghost use Rattle.resolved.specs.Shown.{shown_digest};
 ghost use Rattle.vekalumist.specs.Answers.{number_in, answered, placed};
 ghost use Rattle.vekalumist.specs.Calls.{digest_call, digest_table_call, slots_call, slots_after};
 
-use crate::answer::refuse;
+use crate::answer::tell;
 use crossing::{bound_of, bound_row, layout_of};
-use resolved::digests::{DigestAnswer, DigestRead, digest_by_counting, digest_with_table};
-use resolved::slots::{SlotsBuilt, build_slots};
-
-// Stores a digest, or tells its refusal.
-fn tell_digest(read: DigestRead, digest: &mut [u64; 4], place: &mut u64) -> u64
-    ensures value { result ≡ number_in (shown_digest read) }
-    ensures digest_after { digest.new ≡ answered digest.old (shown_digest read) }
-    ensures place_after { place.new ≡ placed place.old (shown_digest read) }
-{
-    let answer = read.answer;
-    let word = read.word;
-    match answer {
-        DigestAnswer::Refused(why, at) => refuse(why, at, place),
-        DigestAnswer::Digest => {
-            *digest = word;
-            0
-        }
-    }
-}
+use resolved::digests::{digest_by_counting, digest_with_table};
+use resolved::slots::build_slots;
 
 // The digest of a node, its slot counted.
 pub fn veka_raw_digest(
@@ -38,7 +20,7 @@ pub fn veka_raw_digest(
     ensures digest_after { digest.new ≡ answered digest.old (digest_call s.now layout.now index) }
     ensures place_after { place.new ≡ placed place.old (digest_call s.now layout.now index) }
 {
-    tell_digest(
+    tell(
         digest_by_counting(s, layout_of(layout), index),
         digest,
         place,
@@ -58,7 +40,7 @@ pub fn veka_raw_digest_with_table(
     ensures digest_after { digest.new ≡ answered digest.old (digest_table_call s.now layout.now index table.now) }
     ensures place_after { place.new ≡ placed place.old (digest_table_call s.now layout.now index table.now) }
 {
-    tell_digest(
+    tell(
         digest_with_table(s, layout_of(layout), index, table),
         digest,
         place,
@@ -79,11 +61,6 @@ pub fn veka_raw_slots(
     ensures place_after { place.new ≡ placed place.old (slots_call s.now layout.now bound.now (length table.old)) }
     ensures table_after { table.new ≡ slots_after s.now layout.now bound.now table.old }
 {
-    match build_slots(s, layout_of(layout), bound_of(bound), table) {
-        SlotsBuilt::Refused(why, at) => refuse(why, at, place),
-        SlotsBuilt::Filled(rest) => {
-            *left = bound_row(rest);
-            0
-        }
-    }
+    let rest = build_slots(s, layout_of(layout), bound_of(bound), table);
+    tell(rest.map(bound_row), left, place)
 }

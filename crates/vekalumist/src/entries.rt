@@ -1,19 +1,19 @@
 // Entries: of a word, to a word, and of a node by its index.
-ghost use Rattle.std.specs.Prelude.{◌≡◌, ◌%◌, ◌^◌};
-ghost use Rattle.info.specs.Node.{numbers_of, entry_with};
+ghost use Rattle.std.specs.Prelude.{◌≡◌, OnErr};
 ghost use Rattle.info.specs.Entry.{decode_outcome};
-ghost use Rattle.rows.specs.Rows.{row_outcome};
+ghost use Rattle.wire.specs.Shown.{shown_by};
 ghost use Rattle.crossing.specs.Arrays.{entry_row};
 ghost use Rattle.vekalumist.specs.Answers.{number_in, answered, placed, laid};
-ghost use Rattle.vekalumist.specs.Calls.{wide_any, decode_call, encode_call, entry_call};
+ghost use Rattle.vekalumist.specs.Inner.{number_of_entry, entry_of_kind};
+ghost use Rattle.vekalumist.specs.Calls.{decode_call, encode_call, entry_call};
 
-use crate::answer::refuse;
+use crate::answer::tell;
 use crossing::entry_row;
-use info::node::{EntryMade, make_entry};
-use info::{Decoded, Encoded, decode_entry, encode_entry};
-use rows::{RowPlace, row_place};
-use wire::number::{is_short, u64_at};
-use wire::refusal::Refusal;
+use info::node::make_entry;
+use info::{MastNodeEntry, decode_entry, encode_entry};
+use rows::row_place;
+use wire::number::read_u64;
+use wire::refusal::{Refusal, Refused};
 use wire::units::ByteOffset;
 
 // The tag is above the payload, and a pair is two ids below ID_LIMIT.
@@ -29,32 +29,38 @@ pub fn veka_decode_entry(word: u64, entry: &mut [u64; 3], place: &mut u64) -> u6
     ensures after { entry.new ≡ answered entry.old (decode_call word) }
     ensures place_after { place.new ≡ placed place.old (decode_call word) }
 {
-    match decode_entry(word) {
-        Decoded::Refused(why, at) => refuse(why, at.0, place),
-        Decoded::Entry(read) => {
-            *entry = entry_row(read);
-            0
-        }
+    tell(decode_entry(word).map(entry_row), entry, place)
+}
+
+// A number of an entry.
+#[tactic(auto, unfolding(wire::specs::Table::first_met))]
+fn narrow(n: u64) -> Result<u32, Refused<usize>>
+    ensures { shown_by (λ n. n) result ≡ number_of_entry n }
+{
+    u32::try_from(n).map_err(|_| Refused {
+        why: Refusal::Payload,
+        at: 0,
+    })
+}
+
+// The entry of a kind and two numbers. Numbers that the kind has not are not looked at.
+fn entry_of_kind(kind: u64, a: u64, b: u64) -> Result<MastNodeEntry, Refused<usize>>
+    ensures { shown_by (λ e. e) result ≡ entry_of_kind kind a b }
+{
+    let kind = kind as usize;
+    match kind {
+        0 | 1 => make_entry(kind, narrow(a)?, narrow(b)?),
+        2..=5 => make_entry(kind, narrow(a)?, 0),
+        _ => make_entry(kind, 0, 0),
     }
 }
 
-// Whether a number that the kind has is too wide for an entry.
-fn too_wide(kind: u64, a: u64, b: u64) -> bool
-    ensures { result ≡ wide_any (numbers_of (entry_with kind a b)) }
+// The word of an entry of a kind and two numbers.
+fn word_of_entry(entry: &[u64; 3]) -> Result<u64, Refused<usize>>
+    ensures { shown_by (λ w. w) result ≡ encode_call entry.now }
 {
-    if kind < 2 {
-        return (SINGLE_MAX < a) | (SINGLE_MAX < b);
-    }
-    if kind < 6 {
-        return SINGLE_MAX < a;
-    }
-    false
-}
-
-fn low(n: u64) -> u32
-    ensures { result ≡ n % 2 ^ 32 }
-{
-    (n % 0x1_0000_0000) as u32
+    let entry = entry_of_kind(entry[0], entry[1], entry[2])?;
+    Ok(encode_entry(entry)?)
 }
 
 // The word of an entry, which is given as its kind and two numbers.
@@ -63,69 +69,70 @@ pub fn veka_encode_entry(entry: &[u64; 3], word: &mut u64, place: &mut u64) -> u
     ensures word_after { word.new ≡ answered word.old (encode_call entry.now) }
     ensures place_after { place.new ≡ placed place.old (encode_call entry.now) }
 {
-    let kind = entry[0];
-    let a = entry[1];
-    let b = entry[2];
-    if too_wide(kind, a, b) {
-        return refuse(Refusal::Payload, 0, place);
-    }
-    match make_entry(kind as usize, low(a), low(b)) {
-        EntryMade::Refused(why, at) => refuse(why, at, place),
-        EntryMade::Entry(made) => match encode_entry(made) {
-            Encoded::Refused(why, at) => refuse(why, at.0, place),
-            Encoded::Word(w) => {
-                *word = w;
-                0
-            }
-        },
-    }
+    tell(word_of_entry(entry), word, place)
 }
 
-// Stores the kind and two numbers of a word, or tells TAG or PAYLOAD at i: what decoding says, without an entry on the way, since entries are
-// asked for one by one.
-fn entry_of_word(word: u64, i: usize, entry: &mut [u64; 3], place: &mut u64) -> u64
-    ensures value { result ≡ number_in (laid entry_row (decode_outcome i word)) }
-    ensures after { entry.new ≡ answered entry.old (laid entry_row (decode_outcome i word)) }
-    ensures place_after { place.new ≡ placed place.old (laid entry_row (decode_outcome i word)) }
+// Stores the kind and two numbers of a word; or TAG or PAYLOAD at i, and nothing is stored. It is what decoding says, but entries are asked for
+// one by one: with a `MastNodeEntry` on the way (`read_node_entry_at(..).map(entry_row)`) each took 1.2 to 1.5 of its time, as an array in
+// the `Ok` 1.12.
+#[tactic(auto, using(crate::proofs::EntryLaws::rows), unfolding(wire::specs::Table::first_met, info::specs::Entry::decode_outcome, info::specs::Entry::decode_rules, info::specs::Entry::entry_of, info::specs::Entry::bad_tag, info::specs::Entry::bad_payload))]
+fn store_word(word: u64, i: usize, entry: &mut [u64; 3]) -> Result<(), Refused<usize>>
+    ensures stored { shown_by (λ _. entry.new) result ≡ laid entry_row (decode_outcome i word) }
+    ensures refused { OnErr result (entry.new ≡ entry.old) }
 {
     let tag = word / TAG_UNIT;
     let payload = word % TAG_UNIT;
     if 8 < tag {
-        return refuse(Refusal::Tag, i, place);
+        return Err(Refused {
+            why: Refusal::Tag,
+            at: i,
+        });
     }
     if tag < 2 {
         *entry = [tag, payload / ID_LIMIT, payload % ID_LIMIT];
-        return 0;
+        return Ok(());
     }
     if 5 < tag {
         *entry = [tag, 0, 0];
-        return 0;
+        return Ok(());
     }
     if SINGLE_MAX < payload {
-        return refuse(Refusal::Payload, i, place);
+        return Err(Refused {
+            why: Refusal::Payload,
+            at: i,
+        });
     }
     *entry = [tag, payload, 0];
-    0
+    Ok(())
 }
 
-// The same of the word in row i of the rows from `first` on, after OVERFLOW and SHORT.
-fn entry_of_row(s: &[u8], first: ByteOffset, i: usize, entry: &mut [u64; 3], place: &mut u64) -> u64
-    ensures value { result ≡ number_in (laid entry_row (row_outcome s.now first.0 i)) }
-    ensures after { entry.new ≡ answered entry.old (laid entry_row (row_outcome s.now first.0 i)) }
-    ensures place_after { place.new ≡ placed place.old (laid entry_row (row_outcome s.now first.0 i)) }
+// The same of a node's word. Of the layout two numbers are read: how many nodes there are, and where their entries start.
+fn store_node(
+    s: &[u8],
+    layout: &[u64; 12],
+    index: usize,
+    entry: &mut [u64; 3],
+) -> Result<(), Refused<usize>>
+    ensures stored { shown_by (λ _. entry.new) result ≡ entry_call s.now layout.now index }
+    ensures refused { OnErr result (entry.new ≡ entry.old) }
 {
-    match row_place(first, 8, i) {
-        RowPlace::Over => refuse(Refusal::Overflow, i, place),
-        RowPlace::At(at) => {
-            if is_short(s, at, 8) {
-                return refuse(Refusal::Short, i, place);
-            }
-            entry_of_word(u64_at(s, at), i, entry, place)
-        }
+    if layout[0] as usize <= index {
+        return Err(Refused {
+            why: Refusal::Index,
+            at: index,
+        });
     }
+    let Some(at) = row_place(ByteOffset(layout[7] as usize), 8, index) else {
+        return Err(Refused {
+            why: Refusal::Overflow,
+            at: index,
+        });
+    };
+    let (word, _) = read_u64(s, at).map_err(|refused| refused.told_at(index))?;
+    store_word(word, index, entry)
 }
 
-// The entry of a node. Of the layout it reads two numbers: how many nodes there are, and where their entries start.
+// The entry of a node.
 pub fn veka_raw_entry(
     s: &[u8],
     layout: &[u64; 12],
@@ -137,8 +144,5 @@ pub fn veka_raw_entry(
     ensures after { entry.new ≡ answered entry.old (entry_call s.now layout.now index) }
     ensures place_after { place.new ≡ placed place.old (entry_call s.now layout.now index) }
 {
-    if layout[0] as usize <= index {
-        return refuse(Refusal::Index, index, place);
-    }
-    entry_of_row(s, ByteOffset(layout[7] as usize), index, entry, place)
+    tell(store_node(s, layout, index, entry), &mut (), place)
 }

@@ -1,28 +1,16 @@
 // The advice map.
-ghost use Rattle.std.specs.Prelude.{◌≡◌, ◌-◌, length};
+ghost use Rattle.std.specs.Prelude.{◌≡◌, ◌*◌, ◌^◌, ◌<◌, length, IfSome};
 ghost use Rattle.advice.specs.Walk.{key_table};
 ghost use Rattle.advice.specs.Table.{key_outcome, places_needed};
-ghost use Rattle.advice.specs.Shown.{shown_key, shown_map_entry};
-ghost use Rattle.vekalumist.specs.Answers.{number_in, answered, placed, laid, map_entry_row};
+ghost use Rattle.advice.specs.Shown.{looked};
+ghost use Rattle.vekalumist.specs.Answers.{number_in, answered, placed, walked_row, map_entry_row, looked_row, part_row};
 ghost use Rattle.vekalumist.specs.Calls.{walk_call, map_entry_call, lookup_call, values_call};
 
-use crate::answer::refuse;
+use crate::answer::tell;
 use advice::lookup::{MapLookup, lookup};
-use advice::table::{
-    KeyAnswer, KeyRead, MapEntryAnswer, MapEntryRead, entry_at, key_at, most_places,
-};
-use advice::walk::{MapWalk, walk_map};
+use advice::table::{MapEntry, entry_at, key_at, most_places};
+use advice::walk::{Walked, walk_map};
 use wire::units::ByteOffset;
-
-// How many bytes there are from a place on.
-fn bytes_after(s: &[u8], at: usize) -> u64
-    ensures { result ≡ length s.now - at }
-{
-    if s.len() < at {
-        return 0;
-    }
-    (s.len() - at) as u64
-}
 
 // How many places of a key table are enough for the map at a place.
 pub fn veka_raw_places(s: &[u8], at: usize) -> u64
@@ -45,32 +33,18 @@ pub fn veka_raw_walk(
     ensures place_after { place.new ≡ placed place.old (walk_call (length keys.old) s.now at) }
     ensures keys_after { keys.new ≡ key_table s.now at keys.old }
 {
-    match walk_map(s, ByteOffset(at), keys) {
-        MapWalk::Refused(why, at) => refuse(why, at.0, place),
-        MapWalk::Walked(n, next, long) => {
-            let end = next.at.0;
-            let trailing = bytes_after(s, end);
-            *walked = [n as u64, end as u64, trailing, long as u64];
-            0
-        }
-    }
-}
-
-// Stores a key, or tells its refusal.
-fn tell_key(read: KeyRead, key: &mut [u64; 4], place: &mut u64) -> u64
-    ensures value { result ≡ number_in (shown_key read) }
-    ensures key_after { key.new ≡ answered key.old (shown_key read) }
-    ensures place_after { place.new ≡ placed place.old (shown_key read) }
-{
-    let answer = read.answer;
-    let word = read.word;
-    match answer {
-        KeyAnswer::Refused(why, at) => refuse(why, at, place),
-        KeyAnswer::Key => {
-            *key = word;
-            0
-        }
-    }
+    let row = |walked: Walked| -> [u64; 4]
+        ensures { result ≡ walked_row s.entry.now (record { entries = walked.entries; end = walked.end.at.0; long = walked.long_counts }) }
+    {
+        let end = walked.end.at.0;
+        [
+            walked.entries as u64,
+            end as u64,
+            s.len().saturating_sub(end) as u64,
+            walked.long_counts as u64,
+        ]
+    };
+    tell(walk_map(s, ByteOffset(at), keys).map(row), walked, place)
 }
 
 // The key at a place of a table.
@@ -85,31 +59,22 @@ pub fn veka_raw_key(
     ensures key_after { key.new ≡ answered key.old (key_outcome s.now keys.now index) }
     ensures place_after { place.new ≡ placed place.old (key_outcome s.now keys.now index) }
 {
-    tell_key(key_at(s, keys, index), key, place)
+    tell(key_at(s, keys, index), key, place)
 }
 
-// Stores an entry of the map, or tells its refusal.
-fn tell_map_entry(read: MapEntryRead, entry: &mut [u64; 6], place: &mut u64) -> u64
-    ensures value { result ≡ number_in (laid map_entry_row (shown_map_entry read)) }
-    ensures after { entry.new ≡ answered entry.old (laid map_entry_row (shown_map_entry read)) }
-    ensures place_after { place.new ≡ placed place.old (laid map_entry_row (shown_map_entry read)) }
+// The key, the number of its values, and the place of the first.
+fn map_entry_row(entry: MapEntry) -> [u64; 6]
+    ensures { result ≡ map_entry_row (record { key = entry.key; values = entry.values.at.0; len = entry.values.len }) }
 {
-    let answer = read.answer;
-    let word = read.word;
-    match answer {
-        MapEntryAnswer::Refused(why, at) => refuse(why, at, place),
-        MapEntryAnswer::Entry { values, len } => {
-            *entry = [
-                word[0],
-                word[1],
-                word[2],
-                word[3],
-                len as u64,
-                values.0 as u64,
-            ];
-            0
-        }
-    }
+    let MapEntry { key, values } = entry;
+    [
+        key[0],
+        key[1],
+        key[2],
+        key[3],
+        values.len as u64,
+        values.at.0 as u64,
+    ]
 }
 
 // The entry of the map at a place of a table: its key, the number of its values, the place of the first.
@@ -124,7 +89,18 @@ pub fn veka_raw_map_entry(
     ensures after { entry.new ≡ answered entry.old (map_entry_call s.now keys.now index) }
     ensures place_after { place.new ≡ placed place.old (map_entry_call s.now keys.now index) }
 {
-    tell_map_entry(entry_at(s, keys, index), entry, place)
+    tell(entry_at(s, keys, index).map(map_entry_row), entry, place)
+}
+
+// Whether a key is there, the place of its values and their number, and the keys compared.
+fn looked_row(found: MapLookup) -> [u64; 4]
+    ensures { result ≡ looked_row (looked found.values found.compared) }
+{
+    let compared = found.compared as u64;
+    match found.values {
+        Some(values) => [1, values.at.0 as u64, values.len as u64, compared],
+        None => [0, 0, 0, compared],
+    }
 }
 
 // The values of a key: whether it is there, their place and number, the keys compared.
@@ -140,20 +116,17 @@ pub fn veka_raw_lookup(
     ensures looked_after { looked.new ≡ answered looked.old (lookup_call s.now keys.now n key.now) }
     ensures place_after { place.new ≡ placed place.old (lookup_call s.now keys.now n key.now) }
 {
-    match lookup(s, keys, n, *key) {
-        MapLookup::Refused(why, at) => refuse(why, at, place),
-        MapLookup::Found {
-            values,
-            len,
-            compared,
-        } => {
-            *looked = [1, values.0 as u64, len as u64, compared as u64];
-            0
-        }
-        MapLookup::Absent { compared } => {
-            *looked = [0, 0, 0, compared as u64];
-            0
-        }
+    tell(lookup(s, keys, n, *key).map(looked_row), looked, place)
+}
+
+// Whether a key is there, the place of its values and their number of bytes.
+fn part_row(found: MapLookup) -> [u64; 3]
+    requires { IfSome found.values (λ values. 8 * values.len < 2 ^ 64) }
+    ensures { result ≡ part_row (looked found.values found.compared) }
+{
+    match found.values {
+        Some(values) => [1, values.at.0 as u64, 8 * values.len as u64],
+        None => [0, 0, 0],
     }
 }
 
@@ -170,19 +143,5 @@ pub fn veka_raw_values(
     ensures part_after { part.new ≡ answered part.old (values_call s.now keys.now n key.now) }
     ensures place_after { place.new ≡ placed place.old (values_call s.now keys.now n key.now) }
 {
-    match lookup(s, keys, n, *key) {
-        MapLookup::Refused(why, at) => refuse(why, at, place),
-        MapLookup::Found {
-            values,
-            len,
-            compared: _,
-        } => {
-            *part = [1, values.0 as u64, (8 * len) as u64];
-            0
-        }
-        MapLookup::Absent { compared: _ } => {
-            *part = [0, 0, 0];
-            0
-        }
-    }
+    tell(lookup(s, keys, n, *key).map(part_row), part, place)
 }

@@ -4,9 +4,10 @@ ghost use Rattle.writer.specs.Shown.{lent};
 ghost use Rattle.vekalumist.specs.Answers.{number_in, answered, placed};
 ghost use Rattle.vekalumist.specs.Calls.{write_call, write_after};
 
-use crate::answer::refuse;
+use crate::answer::tell;
 use crossing::facts_of;
-use writer::file::{ForestWrite, write_forest_hinted};
+use writer::file::write_forest_hinted;
+use writer::parts::Parts;
 
 // The file of lent parts, at the start of the output: its length. `order` claims how the keys rise; it changes the time and nothing else.
 pub fn veka_raw_write(
@@ -31,8 +32,7 @@ pub fn veka_raw_write(
     ensures place_after { place.new ≡ placed place.old (write_call marks.now max_nodes (lent flags roots.now blocks.now words.now external.now hashes.now keys.now lengths.now values.now) (length out.old)) }
     ensures out_after { out.new ≡ write_after marks.now max_nodes (lent flags roots.now blocks.now words.now external.now hashes.now keys.now lengths.now values.now) out.old }
 {
-    match write_forest_hinted(
-        facts_of(marks, max_nodes),
+    let parts = Parts {
         flags,
         roots,
         blocks,
@@ -42,13 +42,7 @@ pub fn veka_raw_write(
         keys,
         lengths,
         values,
-        order,
-        out,
-    ) {
-        ForestWrite::Refused(why, at) => refuse(why, at, place),
-        ForestWrite::Written(n) => {
-            *size = n as u64;
-            0
-        }
-    }
+    };
+    let written = write_forest_hinted(facts_of(marks, max_nodes), &parts, order, out);
+    tell(written.map(|n| n as u64), size, place)
 }

@@ -11,6 +11,7 @@ use Prim.Native.Nat.{ℕ, zero, suc, ◌+◌, ◌*◌, ◌^◌, ◌≤◌, ◌<�
 use native.Mathlib.Omega.{arith}
 use borrow.Author.Tests.{ltb-false}
 use lib.ListN.{length}
+use Rattle.std.specs.Prelude.{Option}
 use Rattle.wire.specs.Table.{accepted, NoneMet}
 use Rattle.wire.specs.Counts.{long_ones}
 use Rattle.wire.specs.Words.{four_at}
@@ -19,7 +20,6 @@ use Rattle.wire.proofs.Tables.{accepted_none, none_parts}
 use Rattle.layout.specs.Scan.{Scanned, internal, external, roots, blocks, head_counts, scan_outcome, scan_rules, scan_shown, layout_shown}
 use Rattle.layout.specs.Accepted.{EndToEnd, Counted}
 use Rattle.layout.specs.declared.facts.FormatFacts.{FormatFacts}
-use Rattle.layout.specs.declared.facts.Bound.{Bound}
 use Rattle.layout.proofs.Accepted.{end_to_end, all_counted}
 use Rattle.advice.specs.Walk.{Walked, map_counts, walk_outcome, map_rules, walk_rules, advice_rules, walk_end, next_entry, first_entry, entry_count}
 use Rattle.advice.proofs.Accepts.{walk_accepts}
@@ -27,7 +27,7 @@ use Rattle.advice.proofs.Entries.{entry_bytes_lem, long_few}
 
 -- ---- the scan
 
-module _ (f : FormatFacts) (s : List ℕ) (allow : Bool) (bound : Bound) (x : Scanned) (taken : scan_outcome f s allow bound ≡ accepted x) where
+module _ (f : FormatFacts) (s : List ℕ) (allow : Bool) (bound : Option ℕ) (x : Scanned) (taken : scan_outcome f s allow bound ≡ accepted x) where
   pub scanned_unmet : NoneMet (scan_rules f s allow bound) × (scan_shown f s allow bound ≡ x)
   unfolding scan_outcome
   scanned_unmet = accepted_none (scan_rules f s allow bound) (scan_shown f s allow bound) x taken

@@ -1,4 +1,3 @@
-pub mod Stages
 pub mod WholeLaws
 pub mod Accepted
 pub mod Numbered

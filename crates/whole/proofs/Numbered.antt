@@ -6,13 +6,13 @@ use mathlib.Core.List.{List, [], ◌∷◌, ◌++◌}
 use mathlib.Core.Logic.{⊎_elim}
 use Prim.Native.Nat.{ℕ, zero, suc, ◌+◌, ◌≤◌}
 use native.Mathlib.Omega.{arith}
+use Rattle.std.specs.Prelude.{Option}
 use Rattle.wire.specs.Table.{Rule, refused, accepted, pick, first_met}
 use Rattle.wire.specs.Words.{four_at}
 use Rattle.wire.proofs.Stages.{first_or_later}
 use Rattle.info.specs.Entry.{decode_rules}
 use Rattle.layout.specs.Scan.{words_rules, words, entries_at, scan_rules, scan_shown, scan_outcome}
 use Rattle.layout.specs.declared.facts.FormatFacts.{FormatFacts}
-use Rattle.layout.specs.declared.facts.Bound.{Bound}
 use Rattle.advice.specs.Walk.{advice_rules, walk_rules, next_entry, first_entry, entry_count, map_rules, walked, walk_outcome}
 use Rattle.whole.specs.Whole.{sheet_of, map_outcome, whole_outcome}
 
@@ -43,7 +43,7 @@ unfolding words_rules decode_rules
 words_listed step at [] = tt
 words_listed step at (w ∷ ws) = ((omega arith, omega arith), ((omega arith, omega arith), words_listed step (at + step) ws))
 
-scan_listed : (f : FormatFacts) (s : List ℕ) (allow : Bool) (bound : Bound) → Listed (scan_rules f s allow bound)
+scan_listed : (f : FormatFacts) (s : List ℕ) (allow : Bool) (bound : Option ℕ) → Listed (scan_rules f s allow bound)
 unfolding scan_rules
 scan_listed f s allow bound =
     let one : Numbered 1 = (omega arith, omega arith) in
@@ -59,7 +59,7 @@ walk_listed places s at (suc n) seen =
     ((omega arith, omega arith), ((omega arith, omega arith), ((omega arith, omega arith), ((omega arith, omega arith), ((omega arith, omega arith), ((omega arith, omega arith), ((omega arith, omega arith), tt)))))))
     (walk_listed places s (next_entry s at) n (four_at s at ∷ seen))
 
-pub whole_numbered : (f : FormatFacts) (allow : Bool) (bound : Bound) (places : ℕ) (s : List ℕ) (n p : ℕ) → whole_outcome f allow bound places s ≡ refused n p → Numbered n
+pub whole_numbered : (f : FormatFacts) (allow : Bool) (bound : Option ℕ) (places : ℕ) (s : List ℕ) (n p : ℕ) → whole_outcome f allow bound places s ≡ refused n p → Numbered n
 unfolding whole_outcome map_outcome scan_outcome walk_outcome map_rules
 whole_numbered f allow bound places s n p e =
     ⊎_elim

@@ -1,29 +1,20 @@
--- The whole answer, exactly, and the key table by what scan and walk said.
+-- The whole answer, exactly.
 --     whole_accepts   it accepts exactly if scan and walk do, with what they give
 -- Assumes nothing.
-use mathlib.Core.Path.{◌≡◌, sym}
+use mathlib.Core.Path.{◌≡◌}
 use mathlib.Core.Logic.{◌↔◌}
 use mathlib.Core.Bool.{Bool}
 use mathlib.Core.List.{List}
 use Prim.Native.Nat.{ℕ}
-use Rattle.wire.specs.Table.{refused, accepted, ◌>>=◌}
+use Rattle.std.specs.Prelude.{Option}
+use Rattle.wire.specs.Table.{accepted, ◌>>=◌}
 use Rattle.wire.proofs.Stages.{both_taken}
 use Rattle.layout.specs.Scan.{Scanned, scan_outcome}
 use Rattle.layout.specs.declared.facts.FormatFacts.{FormatFacts}
-use Rattle.layout.specs.declared.facts.Bound.{Bound}
-use Rattle.advice.specs.Walk.{Walked, walk_outcome, key_table}
-use Rattle.whole.specs.Whole.{Sheet, sheet_of, map_outcome, whole_outcome, whole_keys}
+use Rattle.advice.specs.Walk.{Walked, walk_outcome}
+use Rattle.whole.specs.Whole.{Sheet, sheet_of, map_outcome, whole_outcome}
 
-module _ (f : FormatFacts) (allow : Bool) (bound : Bound) (s keys : List ℕ) where
-  pub refused_keys : (n p : ℕ) → refused n p ≡ scan_outcome f s allow bound → keys ≡ whole_keys f allow bound s keys
-  unfolding whole_keys
-  refused_keys n p e = rw (sym e)
-
-  pub accepted_keys : (x : Scanned) → accepted x ≡ scan_outcome f s allow bound → key_table s x.layout.advice_map_offset.0 keys ≡ whole_keys f allow bound s keys
-  unfolding whole_keys
-  accepted_keys x e = rw (sym e)
-
-module _ (f : FormatFacts) (allow : Bool) (bound : Bound) (places : ℕ) (s : List ℕ) where
+module _ (f : FormatFacts) (allow : Bool) (bound : Option ℕ) (places : ℕ) (s : List ℕ) where
   -- scan and walk accept, and what they give together is the sheet
   pub record BothAccept (a : Sheet) : Type 0 where
     pub scan : Scanned

@@ -12,7 +12,7 @@ use borrow.Author.Tests.{ltb-true, ltb-false, le-leb, lt-leb, lt-ltb, le-ltb}
 use lib.Count.{trailing_le, trailing_of_zero}
 use lib.Dec.{ltb}
 use lib.ListN.{length, take, drop, get_or, set, drop_of_length-le}
-use lib.Pow.{pow-add, pow_mono, shl_lt, shl_exact}
+use lib.Pow.{pow_mono, shl_lt, shl_exact}
 use lib.Seq.{sets, sets-eq, drop-drop}
 use native.Mathlib.Numerals.{add-one}
 use Rattle.wire.specs.Table.{refused, accepted, pick, first_met, At}
@@ -135,9 +135,6 @@ unfolding shortest_len
 shortest_form v h =
     let s = search_least 8 1 v in
     record { least = s.from; most = s.upto; below = λ l. s.below (omega arith); word = h }
-
-pub bound_next : (len : ℕ) → 2 ^ (7 * len) * 128 ≡ 2 ^ (7 * (len + 1))
-bound_next len = let e : 7 * (len + 1) ≡ 7 * len + 7 = omega arith in rw (e, pow-add)
 
 -- ---- the forms
 

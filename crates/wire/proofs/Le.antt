@@ -1,14 +1,16 @@
 -- The laws of little-endian numbers, each stated once, over the width: 4 and 8 bytes are instances.
 -- Assumes nothing.
 use mathlib.Core.Path.{◌≡◌, refl, ap, sym, ◌∙◌}
-use mathlib.Core.List.{List, [], ◌∷◌, ◌++◌}
+use mathlib.Core.List.{List, [], ◌∷◌, ◌++◌, append-nil}
 use Prim.Native.Nat.{ℕ, zero, suc, ◌+◌, ◌-◌, ◌*◌, ◌/◌, ◌%◌, ◌^◌, ◌≤◌, ◌<◌}
-use native.Mathlib.Nat.{mod-lt, mod-one, mod-eq_of_lt, one-le-pow, pow-suc, add_assoc}
+use native.Mathlib.Nat.{mod-lt, mod-one, mod-eq_of_lt, one-le-pow, pow-suc, add_assoc, add-sub_cancel_left}
 use native.Mathlib.Omega.{arith}
 use lib.Arith.{mod-mul}
 use lib.Dec.{lit<}
 use lib.ListN.{length, get_or, take, drop, length-take, length-drop}
 use lib.Seq.{slice, slice-cons, length-slice, get_or-drop, take-add, drop_at, drop-append-le, length-take-le}
+use Rattle.std.proofs.lemmas.List.{drop-take}
+use Rattle.std.specs.Int.{w32, w64, from_le_bytes}
 use Rattle.wire.specs.Le.{Bytes, le, le_at, le_bytes}
 
 -- ---- lists of bytes: the tail, one after the other, a part
@@ -85,15 +87,6 @@ le_parts s at m n h =
     let l : length (slice at (at + m) s) ≡ m = length-slice at (at + m) s h ∙ omega arith in
     rw (slice-parts s at m n h, le_append, l)
 
--- one byte more in front: what a loop from the highest byte down does
-pub le-slice_back : (p t : ℕ) (s : List ℕ) → 0 < p → p ≤ t → t ≤ length s → le (slice (p - 1) t s) ≡ le (slice p t s) * 256 + get_or s (p - 1) 0
-unfolding le
-le-slice_back p t s h k l =
-    let e : suc (p - 1) ≡ p = omega arith in
-    let front : slice (p - 1) t s ≡ get_or s (p - 1) 0 ∷ slice p t s =
-    slice-cons (p - 1) t s 0 (omega arith) l ∙ ap (λ (x : ℕ). get_or s (p - 1) 0 ∷ slice x t s) e in
-    rw front (omega arith)
-
 -- ---- the bytes of a number
 
 pub length-le_bytes : (n x : ℕ) → length (le_bytes n x) ≡ n
@@ -127,3 +120,35 @@ le_bytes-le (b ∷ bs) h =
 -- lists of bytes of one length are told apart by their values
 pub le_injective : (bs cs : List ℕ) → Bytes bs → Bytes cs → length bs ≡ length cs → le bs ≡ le cs → bs ≡ cs
 le_injective bs cs hb hc l e = cc (le_bytes-le bs hb, le_bytes-le cs hc)
+
+-- ---- eight bytes as std reads them: those of a part, and zeros after it
+
+pub le-eight : (part : List ℕ) → length part ≤ 8 → from_le_bytes w64 (part ++ drop (length part) (0 ∷ 0 ∷ 0 ∷ 0 ∷ 0 ∷ 0 ∷ 0 ∷ 0 ∷ [])) ≡ le part
+unfolding le
+le-eight [] h = refl
+le-eight (a ∷ []) h = omega arith
+le-eight (a ∷ b ∷ []) h = omega arith
+le-eight (a ∷ b ∷ c ∷ []) h = omega arith
+le-eight (a ∷ b ∷ c ∷ d ∷ []) h = omega arith
+le-eight (a ∷ b ∷ c ∷ d ∷ e ∷ []) h = omega arith
+le-eight (a ∷ b ∷ c ∷ d ∷ e ∷ f ∷ []) h = omega arith
+le-eight (a ∷ b ∷ c ∷ d ∷ e ∷ f ∷ g ∷ []) h = omega arith
+le-eight (a ∷ b ∷ c ∷ d ∷ e ∷ f ∷ g ∷ i ∷ []) h = omega arith
+le-eight (a ∷ b ∷ c ∷ d ∷ e ∷ f ∷ g ∷ i ∷ j ∷ l) h = absurd (omega arith)
+
+-- a part that is cut out of the bytes, as the number of its bytes
+pub le-part : (s : List ℕ) (at n : ℕ) → le (take (at + n - at) (drop at s)) ≡ le_at s at n
+le-part s at n = rw (add-sub_cancel_left, drop-take) refl
+
+-- the numbers that std makes of all eight or four bytes
+pub le-whole_8 : (bs : List ℕ) → length bs ≡ 8 → from_le_bytes w64 bs ≡ le bs
+le-whole_8 bs h = let e : bs ++ drop (length bs) (0 ∷ 0 ∷ 0 ∷ 0 ∷ 0 ∷ 0 ∷ 0 ∷ 0 ∷ []) ≡ bs = rw h (append-nil bs) in rw e at (le-eight bs (omega arith))
+
+pub le-whole_4 : (bs : List ℕ) → length bs ≡ 4 → from_le_bytes w32 bs ≡ le bs
+unfolding le
+le-whole_4 [] h = absurd (omega arith)
+le-whole_4 (a ∷ []) h = absurd (omega arith)
+le-whole_4 (a ∷ b ∷ []) h = absurd (omega arith)
+le-whole_4 (a ∷ b ∷ c ∷ []) h = absurd (omega arith)
+le-whole_4 (a ∷ b ∷ c ∷ d ∷ []) h = omega arith
+le-whole_4 (a ∷ b ∷ c ∷ d ∷ e ∷ l) h = absurd (omega arith)

@@ -84,13 +84,6 @@ replaced p [] = []
 replaced p (r ∷ rs) = record { met = r.met; number = r.number; place = p } ∷ replaced p rs
 
 module _ {A B : Type 0} (p : ℕ) where
-  pub replaced_accepted : (rs : List Rule) (u w : A) (v : B) → first_met rs u ≡ accepted w → first_met (replaced p rs) v ≡ accepted v
-  replaced_accepted rs u w v e = none_accepted (replaced p rs) v (unmet rs (accepted_none rs u w e).0)
-    where
-      unmet : (rs : List Rule) → NoneMet rs → NoneMet (replaced p rs)
-      unmet [] h = tt
-      unmet (r ∷ rs) h = (h.0, unmet rs h.1)
-
   pub replaced_refused : (rs : List Rule) (u : A) (v : B) (n q : ℕ) → first_met rs u ≡ refused n q → first_met (replaced p rs) v ≡ refused n p
   unfolding first_met
   replaced_refused [] u v n q e = cc

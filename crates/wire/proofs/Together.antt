@@ -2,19 +2,32 @@
 -- Assumes nothing.
 use mathlib.Core.Path.{◌≡◌, sym}
 use mathlib.Core.List.{List}
+use mathlib.Core.Logic.{◌⊎◌, inl, inr}
 use Prim.Native.Nat.{ℕ, ◌+◌, ◌-◌, ◌*◌, ◌/◌, ◌%◌, ◌^◌, ◌≤◌, ◌<◌}
-use native.Mathlib.Nat.{mod-eq_of_lt, lt_of_not-le, mul-div-mul_right}
+use native.Mathlib.Nat.{mod-eq_of_lt, lt_of_not-le, mul-div-mul_right, lt-div-mul-add, div-eq_of_lt, zero-mul, zero-add}
 use native.Mathlib.Omega.{arith}
 use lib.Count.{count_trailing_zeros, trailing_le}
 use lib.ListN.{length}
 use lib.Pow.{pow_pos, pow-add, low, shl_lt, shr-shr}
 use Rattle.wire.specs.Le.{Bytes, le_at}
 use Rattle.wire.proofs.Le.{le_parts, le-slice_below}
+use Rattle.wire.proofs.Counts.{lt_or_ge}
 use Rattle.wire.proofs.Forms.{pow_256, trailing_all}
 
 -- a byte that is not 0 ends in fewer than eight zeros
 pub byte_zeros : (b : ℕ) → b < 256 → 0 < b → count_trailing_zeros 8 b < 8
 byte_zeros b h p = lt_of_not-le (λ (g : 8 ≤ count_trailing_zeros 8 b). omega (arith, trailing_all 8 b (omega (arith, trailing_le 8 b)), mod-eq_of_lt h))
+
+-- a number with nothing above its n lowest bits, and one with something there
+pub below_power : (n v : ℕ) → v / 2 ^ n ≡ 0 → v < 2 ^ n
+below_power n v e = rw (e, zero-mul, zero-add) at (lt-div-mul-add {a = v} {b = 2 ^ n} (pow_pos n))
+
+pub above_power : (n v : ℕ) → (v / 2 ^ n ≡ 0 → ⊥) → 2 ^ n ≤ v
+above_power n v f = go (lt_or_ge v (2 ^ n))
+  where
+    go : (v < 2 ^ n) ⊎ (2 ^ n ≤ v) → 2 ^ n ≤ v
+    go (inl h) = absurd (f (div-eq_of_lt h))
+    go (inr h) = h
 
 -- of j low bits a, with r above them, in a word of j + k bits: up by k, so that nothing is above them, and down again past their n lowest
 shifted_field : (a r j k n : ℕ) → a < 2 ^ j → (a + 2 ^ j * r) * 2 ^ k % 2 ^ (j + k) / 2 ^ (n + k) ≡ a / 2 ^ n

@@ -1,6 +1,6 @@
 -- Words: the four numbers at a place, when they are elements, and the laws of the order:
 --     order_irreflexive, order_transitive, order_total   it is a strict total order
---     order_same, order_above                            Same is equality, and Above is Below the other way round
+--     order_same, order_above                            Equal is equality, and Greater is Less the other way round
 -- Assumes nothing.
 use mathlib.Core.Path.{◌≡◌, refl, sym, ◌∙◌}
 use mathlib.Core.Bool.{Bool, true, false, not, ◌||◌, ◌&&◌}
@@ -10,22 +10,18 @@ use Prim.Native.Nat.{ℕ, suc, ◌+◌, ◌≤◌, ◌<◌}
 use native.Mathlib.Nat.{add-zero}
 use native.Mathlib.Numerals.{add-one}
 use native.Mathlib.Omega.{arith}
-use borrow.Author.Tests.{ltb-true, ltb-false, lt-ltb, le-ltb}
+use borrow.Author.Tests.{ltb-true, ltb-false, lt-ltb, le-ltb, eq-eqb, ne_eqb}
 use lib.Dec.{ltb}
 use lib.ListN.{length, get_or, drop}
 use lib.Seq.{slice, length-slice, take_at, drop_at, drop-cons, drop-length}
 use Rattle.wire.specs.Table.{refused, accepted, first_met}
-use Rattle.wire.specs.Refusals.{SHORT, ELEMENT, number_of}
+use Rattle.wire.specs.Refusals.{SHORT, ELEMENT}
 use Rattle.wire.specs.Le.{le_at, is_short, number_at}
 use Rattle.wire.specs.Rows.{numbers_of}
-use Rattle.wire.specs.Words.{is_element, not_elements, zero_word, four_at, word_at, word_rules, word_outcome, word_of, word_order}
-use Rattle.wire.specs.Shown.{shown_check}
-use Rattle.wire.specs.declared.refusal.Refusal.{Refusal}
-use Rattle.wire.specs.declared.units.ByteOffset.{ByteOffset}
-use Rattle.wire.specs.declared.units.Cursor.{Cursor}
-use Rattle.wire.specs.declared.word.WordCheck.{WordCheck}
-use Rattle.wire.specs.declared.word.WordCheck.TheVariants as check
-use Rattle.wire.specs.declared.word.WordOrder.TheVariants.{Below, Same, Above}
+use Rattle.std.specs.Cmp.Lexicographic.{slice_cmp}
+use Rattle.std.specs.Ordering.{nat_cmp}
+use Rattle.std.specs.declared.cmp.Ordering.TheVariants.{Less, Equal, Greater}
+use Rattle.wire.specs.Words.{is_element, not_elements, zero_word, four_at, word_at, word_rules, word_outcome, word_order}
 use Rattle.wire.proofs.Le.{slice-parts}
 use Rattle.wire.proofs.Tables.{accepted_none}
 use Rattle.wire.proofs.Numbers.{number_inside}
@@ -107,25 +103,12 @@ module _ (s : List ℕ) (at : ℕ) where
   unfolding word_outcome word_rules first_met
   check_whole e f = rw (e, not_elements_lem (ltb-false _ _ e), f)
 
--- ---- the word beside a check's answer
-
-module _ (s : List ℕ) (at : ℕ) (r : WordCheck) where
-  pub read_taken : (c : Cursor) → r ≡ check.Whole c → shown_check r (four_at s at) ≡ word_outcome s at
-      → (shown_check r (word_at s at) ≡ word_outcome s at) × (word_at s at ≡ word_of (word_outcome s at))
+  -- what is read after a check that accepted
+  pub read_whole : (n : ℕ) → accepted (record { value = four_at s at; next = n }) ≡ word_outcome s at → accepted (record { value = word_at s at; next = n }) ≡ word_outcome s at
   unfolding word_outcome word_rules
-  read_taken c e said =
-      let said' : accepted (record { value = four_at s at; next = c.at.0 }) ≡ word_outcome s at = rw e at said in
-      let whole : word_at s at ≡ four_at s at = word_whole s at (taken_whole c.at.0 (sym said')) in
-      rw (whole, ← said', e) (refl, refl)
-    where
-      taken_whole : (n : ℕ) → word_outcome s at ≡ accepted (record { value = four_at s at; next = n }) → is_short s at 32 ≡ false
-      taken_whole n q = (accepted_none (word_rules s at) (record { value = four_at s at; next = at + 32 }) (record { value = four_at s at; next = n }) q).0.0
-
-  pub read_refused : (why : Refusal) (p : ByteOffset) → r ≡ check.Refused why p → shown_check r (four_at s at) ≡ word_outcome s at
-      → (shown_check r zero_word ≡ word_outcome s at) × (zero_word ≡ word_of (word_outcome s at))
-  read_refused why p e said =
-      let said' : refused (number_of why) p.0 ≡ word_outcome s at = rw e at said in
-      rw (← said', e) (refl, refl)
+  read_whole n said =
+      let q = accepted_none (word_rules s at) (record { value = four_at s at; next = at + 32 }) (record { value = four_at s at; next = n }) (sym said) in
+      rw (word_whole q.0.0) said
 
 -- ---- the order
 
@@ -133,11 +116,11 @@ never : {P : Type 0} → ◌≡◌ {A = ℕ} 0 1 → P
 never e = absurd (omega arith)
 
 module _ (x y : ℕ) (a b : List ℕ) where
-  pub first_below : x < y → word_order (x ∷ a) (y ∷ b) ≡ Below
+  pub first_below : x < y → word_order (x ∷ a) (y ∷ b) ≡ Less
   unfolding word_order
   first_below h = rw (lt-ltb x y h)
 
-  pub first_above : y < x → word_order (x ∷ a) (y ∷ b) ≡ Above
+  pub first_above : y < x → word_order (x ∷ a) (y ∷ b) ≡ Greater
   unfolding word_order
   first_above h = rw (le-ltb x y (omega arith), lt-ltb y x h)
 
@@ -154,7 +137,7 @@ module _ (x y : ℕ) (a b : List ℕ) where
       go false e true f = inr (inr (ltb-true y x f))
       go false e false f = inr (inl (omega (arith, ltb-false x y e, ltb-false y x f)))
 
-  below_first : word_order (x ∷ a) (y ∷ b) ≡ Below → (x < y) ⊎ ((x ≡ y) × (word_order a b ≡ Below))
+  below_first : word_order (x ∷ a) (y ∷ b) ≡ Less → (x < y) ⊎ ((x ≡ y) × (word_order a b ≡ Less))
   below_first e =
       ⊎_elim
       (λ h. inl h)
@@ -166,25 +149,25 @@ module _ (a b : List ℕ) (i : ℕ) (la : i < length a) (lb : i < length b) wher
   left : word_order (drop i a) (drop i b) ≡ word_order (get_or a i 0 ∷ drop (suc i) a) (get_or b i 0 ∷ drop (suc i) b)
   left = rw (drop-cons a i 0 la, drop-cons b i 0 lb)
 
-  pub left_below : get_or a i 0 < get_or b i 0 → word_order (drop i a) (drop i b) ≡ Below
+  pub left_below : get_or a i 0 < get_or b i 0 → word_order (drop i a) (drop i b) ≡ Less
   left_below h = left ∙ first_below _ _ _ _ h
 
-  pub left_above : get_or b i 0 < get_or a i 0 → word_order (drop i a) (drop i b) ≡ Above
+  pub left_above : get_or b i 0 < get_or a i 0 → word_order (drop i a) (drop i b) ≡ Greater
   left_above h = left ∙ first_above _ _ _ _ h
 
   pub left_same : get_or a i 0 ≡ get_or b i 0 → word_order (drop i a) (drop i b) ≡ word_order (drop (i + 1) a) (drop (i + 1) b)
   left_same h = rw add-one (left ∙ first_same _ _ _ _ h)
 
-pub left_none : (a b : List ℕ) → word_order (drop (length a) a) (drop (length b) b) ≡ Same
+pub left_none : (a b : List ℕ) → word_order (drop (length a) a) (drop (length b) b) ≡ Equal
 unfolding word_order
 left_none a b = rw (drop-length a, drop-length b)
 
-pub order_irreflexive : (a : List ℕ) → word_order a a ≡ Same
+pub order_irreflexive : (a : List ℕ) → word_order a a ≡ Equal
 unfolding word_order
 order_irreflexive [] = refl
 order_irreflexive (x ∷ a) = first_same x x a a refl ∙ order_irreflexive a
 
-pub order_transitive : (a b c : List ℕ) → word_order a b ≡ Below → word_order b c ≡ Below → word_order a c ≡ Below
+pub order_transitive : (a b c : List ℕ) → word_order a b ≡ Less → word_order b c ≡ Less → word_order a c ≡ Less
 unfolding word_order
 order_transitive [] [] c e f = f
 order_transitive [] (y ∷ b) [] e f = never (cc)
@@ -201,7 +184,7 @@ order_transitive (x ∷ a) (y ∷ b) (z ∷ c) e f =
     (below_first y z b c f))
     (below_first x y a b e)
 
-pub order_total : (a b : List ℕ) → (word_order a b ≡ Below) ⊎ ((a ≡ b) ⊎ (word_order b a ≡ Below))
+pub order_total : (a b : List ℕ) → (word_order a b ≡ Less) ⊎ ((a ≡ b) ⊎ (word_order b a ≡ Less))
 unfolding word_order
 order_total [] [] = inr (inl refl)
 order_total [] (y ∷ b) = inl refl
@@ -218,11 +201,11 @@ order_total (x ∷ a) (y ∷ b) =
     (λ h. inr (inr (first_below y x b a h))))
     (compared x y a b)
 
-pub order_above : (a b : List ℕ) → (word_order a b ≡ Above) ↔ (word_order b a ≡ Below)
+pub order_above : (a b : List ℕ) → (word_order a b ≡ Greater) ↔ (word_order b a ≡ Less)
 unfolding word_order
 order_above a b = (above a b, below a b)
   where
-    above : (a b : List ℕ) → word_order a b ≡ Above → word_order b a ≡ Below
+    above : (a b : List ℕ) → word_order a b ≡ Greater → word_order b a ≡ Less
     above [] [] e = never (cc)
     above [] (y ∷ b) e = never (cc)
     above (x ∷ a) [] e = refl
@@ -232,7 +215,7 @@ order_above a b = (above a b, below a b)
         (⊎_elim (λ h. first_same y x b a (sym h) ∙ above a b (sym (first_same x y a b h) ∙ e)) (λ h. first_below y x b a h))
         (compared x y a b)
 
-    below : (a b : List ℕ) → word_order b a ≡ Below → word_order a b ≡ Above
+    below : (a b : List ℕ) → word_order b a ≡ Less → word_order a b ≡ Greater
     below [] [] e = never (cc)
     below [] (y ∷ b) e = never (cc)
     below (x ∷ a) [] e = refl
@@ -242,12 +225,33 @@ order_above a b = (above a b, below a b)
         (λ h. first_same x y a b (sym h.0) ∙ below a b h.1)
         (below_first y x b a e)
 
-pub order_same : (a b : List ℕ) → (word_order a b ≡ Same) ↔ (a ≡ b)
+pub order_same : (a b : List ℕ) → (word_order a b ≡ Equal) ↔ (a ≡ b)
 order_same a b = (same a b, λ e. rw e (order_irreflexive b))
   where
-    same : (a b : List ℕ) → word_order a b ≡ Same → a ≡ b
+    same : (a b : List ℕ) → word_order a b ≡ Equal → a ≡ b
     same a b e =
         ⊎_elim
         (λ h. never (cc))
         (⊎_elim (λ h. h) (λ h. let f = (order_above a b).1 h in never (cc)))
         (order_total a b)
+
+-- the order of std, which compares lists from the first number on
+pub std_order : (a b : List ℕ) → slice_cmp nat_cmp a b ≡ word_order a b
+unfolding word_order
+std_order [] [] = refl
+std_order [] (y ∷ b) = refl
+std_order (x ∷ a) [] = refl
+std_order (x ∷ a) (y ∷ b) =
+    ⊎_elim
+    (λ h. below h)
+    (⊎_elim (λ h. same h (std_order a b)) (λ h. above h))
+    (compared x y a b)
+  where
+    below : x < y → slice_cmp nat_cmp (x ∷ a) (y ∷ b) ≡ word_order (x ∷ a) (y ∷ b)
+    below h = rw (lt-ltb x y h) refl
+
+    same : x ≡ y → slice_cmp nat_cmp a b ≡ word_order a b → slice_cmp nat_cmp (x ∷ a) (y ∷ b) ≡ word_order (x ∷ a) (y ∷ b)
+    same h rest = rw h (rw (le-ltb y y (omega arith), eq-eqb y y refl) rest)
+
+    above : y < x → slice_cmp nat_cmp (x ∷ a) (y ∷ b) ≡ word_order (x ∷ a) (y ∷ b)
+    above h = rw (le-ltb x y (omega arith), lt-ltb y x h, ne_eqb x y (omega arith)) refl

@@ -1,43 +1,38 @@
--- What each answer says, by number and values.
-use Rattle.std.specs.Prelude.{ℕ, ◌+◌, List}
+-- What each answer says, by number and values: one word for every answer of the crates, and the words for those of this one.
+use Rattle.std.specs.Prelude.{ℕ, ◌+◌, List, Option, Some, None, Result, Ok, Err}
 use Rattle.wire.specs.Table.{Outcome, refused, accepted, At}
 use Rattle.wire.specs.Refusals.{SHORT, number_of}
-use Rattle.wire.specs.declared.number.NumberRead.{NumberRead}
-use Rattle.wire.specs.declared.number.NumberRead.TheVariants as number
+use Rattle.wire.specs.declared.refusal.Refused.{Refused}
+use Rattle.wire.specs.declared.units.ByteOffset.{ByteOffset}
+use Rattle.wire.specs.declared.units.Cursor.{Cursor}
 use Rattle.wire.specs.declared.count.Count.{Count}
-use Rattle.wire.specs.declared.count.CountRead.{CountRead}
-use Rattle.wire.specs.declared.count.CountRead.TheVariants as count
-use Rattle.wire.specs.declared.count.Found.{Found}
-use Rattle.wire.specs.declared.count.Found.TheVariants as found
-use Rattle.wire.specs.declared.count.CountWritten.{CountWritten}
-use Rattle.wire.specs.declared.count.CountWritten.TheVariants as written
-use Rattle.wire.specs.declared.word.WordCheck.{WordCheck}
-use Rattle.wire.specs.declared.word.WordCheck.TheVariants as word
-use Rattle.wire.specs.declared.word.WordRead.{WordRead}
 
-abbrev pub shown_number : NumberRead → Outcome (At ℕ)
-shown_number (number.Whole n c) = accepted (record { value = n; next = c.at.0 })
-shown_number (number.Refused why at) = refused (number_of why) at.0
+-- an answer, by what its value says and by its place as a number
+abbrev pub shown : {A B P : Type 0} → (A → B) → (P → ℕ) → Result A (Refused P) → Outcome B
+shown says number (Ok v) = accepted (says v)
+shown says number (Err r) = refused (number_of r.why) (number r.at)
+
+-- whose place is a byte of the file
+abbrev pub shown_in : {A B : Type 0} → (A → B) → Result A (Refused ByteOffset) → Outcome B
+shown_in says = shown says (λ p. p.0)
+
+-- whose place is a plain number
+abbrev pub shown_by : {A B : Type 0} → (A → B) → Result A (Refused ℕ) → Outcome B
+shown_by says = shown says (λ p. p)
+
+-- what is read at a place, and the place after it
+abbrev pub shown_read : {A : Type 0} → Result (A × Cursor) (Refused ByteOffset) → Outcome (At A)
+shown_read = shown_in (λ r. record { value = r.0; next = r.1.at.0 })
 
 -- of a stage of the reader: what is found at a place
-abbrev pub shown_found : ℕ → Found → Outcome (At Count)
-shown_found at (found.Whole v len shortest) = accepted (record { value = record { value = v; len = len; shortest = shortest }; next = at + len })
-shown_found at found.Short = refused SHORT at
-
-abbrev pub shown_count : CountRead → Outcome (At Count)
-shown_count (count.Whole n c) = accepted (record { value = n; next = c.at.0 })
-shown_count (count.Refused why at) = refused (number_of why) at.0
+abbrev pub shown_found : ℕ → Option Count → Outcome (At Count)
+shown_found at (Some c) = accepted (record { value = c; next = at + c.len })
+shown_found at None = refused SHORT at
 
 -- where writing goes on
-abbrev pub shown_written : CountWritten → Outcome ℕ
-shown_written (written.Written c) = accepted c.at.0
-shown_written (written.Refused why at) = refused (number_of why) at.0
+abbrev pub shown_written : Result Cursor (Refused ByteOffset) → Outcome ℕ
+shown_written = shown_in (λ c. c.at.0)
 
 -- a check hands on the word that it was given
-abbrev pub shown_check : WordCheck → List ℕ → Outcome (At (List ℕ))
-shown_check (word.Whole c) w = accepted (record { value = w; next = c.at.0 })
-shown_check (word.Refused why at) w = refused (number_of why) at.0
-
--- an answer, with the word beside it
-abbrev pub shown_word : WordRead → Outcome (At (List ℕ))
-shown_word r = shown_check r.answer r.word
+abbrev pub shown_check : Result Cursor (Refused ByteOffset) → List ℕ → Outcome (At (List ℕ))
+shown_check r w = shown_in (λ c. record { value = w; next = c.at.0 }) r

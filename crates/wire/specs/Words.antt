@@ -1,12 +1,12 @@
 -- Elements and words: an element is a number below the modulus, a word is four of them in 32 bytes. And the order of words.
 use Rattle.std.specs.Prelude.{ℕ, ◌+◌, Bool, false, not, ◌||◌, List, [], ◌∷◌, ltb}
 use Rattle.std.proofs.Math.Seq.{slice}
-use Rattle.wire.specs.Table.{Rule, rule, Outcome, refused, accepted, pick, first_met, At}
+use Rattle.wire.specs.Table.{Rule, rule, Outcome, pick, first_met, At}
 use Rattle.wire.specs.Refusals.{ELEMENT}
 use Rattle.wire.specs.Le.{is_short, short_rule}
 use Rattle.wire.specs.Rows.{numbers_of}
-use Rattle.wire.specs.declared.word.WordOrder.{WordOrder}
-use Rattle.wire.specs.declared.word.WordOrder.TheVariants.{Below, Same, Above}
+use Rattle.std.specs.declared.cmp.Ordering.{Ordering}
+use Rattle.std.specs.declared.cmp.Ordering.TheVariants.{Less, Equal, Greater}
 
 abbrev pub modulus : ℕ
 modulus = 18446744069414584321
@@ -37,14 +37,9 @@ word_rules s at = short_rule s at 32 ∷ rule ELEMENT at (not_elements (four_at 
 unfoldable pub word_outcome : List ℕ → ℕ → Outcome (At (List ℕ))
 word_outcome s at = first_met (word_rules s at) (record { value = four_at s at; next = at + 32 })
 
--- what stands beside a word's answer: the word, or zeros where it is refused
-abbrev pub word_of : Outcome (At (List ℕ)) → List ℕ
-word_of (refused n p) = zero_word
-word_of (accepted w) = w.value
-
 -- by the first number in which they differ
-unfoldable pub word_order : List ℕ → List ℕ → WordOrder
-word_order [] [] = Same
-word_order [] (b ∷ bs) = Below
-word_order (a ∷ cs) [] = Above
-word_order (a ∷ cs) (b ∷ bs) = pick (ltb a b) Below (pick (ltb b a) Above (word_order cs bs))
+unfoldable pub word_order : List ℕ → List ℕ → Ordering
+word_order [] [] = Equal
+word_order [] (b ∷ bs) = Less
+word_order (a ∷ cs) [] = Greater
+word_order (a ∷ cs) (b ∷ bs) = pick (ltb a b) Less (pick (ltb b a) Greater (word_order cs bs))

@@ -1,10 +1,13 @@
-// Refusals, by name and by number.
+// Refusals, by name and by number, and with the place.
 ghost use Rattle.std.specs.Prelude.{◌≡◌};
 ghost use Rattle.wire.specs.Refusals.{number_of};
 
-#[derive(Clone, Copy)]
+use crate::units::ByteOffset;
+
+// Each has the number of the format's table.
+#[derive(Clone, Copy, PartialEq, Eq)]
 pub enum Refusal {
-    Short,
+    Short = 1,
     Magic,
     Version,
     Flags,
@@ -33,29 +36,32 @@ pub enum Refusal {
 pub fn refusal_number(why: Refusal) -> u8
     ensures { result ≡ number_of why }
 {
-    match why {
-        Refusal::Short => 1,
-        Refusal::Magic => 2,
-        Refusal::Version => 3,
-        Refusal::Flags => 4,
-        Refusal::Hashless => 5,
-        Refusal::Overflow => 6,
-        Refusal::TooMany => 7,
-        Refusal::Budget => 8,
-        Refusal::Tag => 9,
-        Refusal::Payload => 10,
-        Refusal::Externals => 11,
-        Refusal::Index => 12,
-        Refusal::RootId => 13,
-        Refusal::NoHash => 14,
-        Refusal::ChildRange => 15,
-        Refusal::Forward => 16,
-        Refusal::Order => 17,
-        Refusal::Element => 18,
-        Refusal::Duplicate => 19,
-        Refusal::Room => 20,
-        Refusal::Format => 21,
-        Refusal::NotCanonical => 22,
-        Refusal::Parts => 23,
+    why as u8
+}
+
+// What is refused, and where: at a byte of the file, or at the number of a row, a node, a key or a part.
+#[derive(Clone, Copy)]
+pub struct Refused<P> {
+    pub why: Refusal,
+    pub at: P,
+}
+
+impl<P> Refused<P> {
+    // The same refusal, told at another place.
+    pub fn told_at<Q>(self, at: Q) -> Refused<Q>
+    where
+        P: Drop,
+        ensures { result ≡ record { why = self.why; at = at } }
+    {
+        Refused { why: self.why, at }
+    }
+}
+
+// Where a place may be no byte, it is told as a plain number.
+impl From<Refused<ByteOffset>> for Refused<usize> {
+    ghost from_gives = { λ r e. e ≡ record { why = r.why; at = r.at.0 } };
+
+    fn from(refused: Refused<ByteOffset>) -> Refused<usize> {
+        refused.told_at(refused.at.0)
     }
 }

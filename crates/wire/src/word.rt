@@ -1,35 +1,14 @@
 // Elements and words of four, read from 32 bytes, and the order of words.
 ghost use Rattle.std.specs.Prelude.{◌≡◌};
-ghost use Rattle.wire.specs.Words.{is_element, four_at, word_at, word_outcome, word_of, word_order};
-ghost use Rattle.wire.specs.Shown.{shown_check, shown_word};
+ghost use Rattle.wire.specs.Words.{is_element, four_at, word_at, word_outcome, word_order};
+ghost use Rattle.wire.specs.Shown.{shown_read, shown_check};
 
 use crate::number::{is_short, u64_at};
-use crate::refusal::Refusal;
+use crate::refusal::{Refusal, Refused};
 use crate::units::{ByteOffset, Cursor};
+use std::cmp::Ordering;
 
 const MODULUS: u64 = 18446744069414584321;
-
-// Whether a word stands at a place: the place after it, or why not.
-#[derive(Clone, Copy)]
-pub enum WordCheck {
-    Whole(Cursor),
-    Refused(Refusal, ByteOffset),
-}
-
-// The same with the word beside it, all zero where it is refused.
-#[derive(Clone, Copy)]
-pub struct WordRead {
-    pub answer: WordCheck,
-    pub word: [u64; 4],
-}
-
-// How one word stands to another.
-#[derive(Clone, Copy)]
-pub enum WordOrder {
-    Below,
-    Same,
-    Above,
-}
 
 // Whether a number is an element of the field.
 pub fn is_element(x: u64) -> bool
@@ -54,11 +33,14 @@ pub fn word_at(s: &[u8], at: ByteOffset) -> [u64; 4]
 }
 
 // Whether the 32 bytes at a place are a word: SHORT, then ELEMENT, at the place.
-pub fn check_word(s: &[u8], at: ByteOffset) -> WordCheck
+pub fn check_word(s: &[u8], at: ByteOffset) -> Result<Cursor, Refused<ByteOffset>>
     ensures { shown_check result (four_at s.now at.0) ≡ word_outcome s.now at.0 }
 {
     if is_short(s, at, 32) {
-        return WordCheck::Refused(Refusal::Short, at);
+        return Err(Refused {
+            why: Refusal::Short,
+            at,
+        });
     }
     let from = at.0;
     let a = is_element(u64_at(s, at));
@@ -66,44 +48,27 @@ pub fn check_word(s: &[u8], at: ByteOffset) -> WordCheck
     let c = is_element(u64_at(s, ByteOffset(from + 16)));
     let d = is_element(u64_at(s, ByteOffset(from + 24)));
     if a & b & c & d {
-        return WordCheck::Whole(Cursor {
+        return Ok(Cursor {
             at: ByteOffset(from + 32),
         });
     }
-    WordCheck::Refused(Refusal::Element, at)
+    Err(Refused {
+        why: Refusal::Element,
+        at,
+    })
 }
 
-// The word at a place.
-pub fn read_word(s: &[u8], at: ByteOffset) -> WordRead
-    ensures result_value { shown_word result ≡ word_outcome s.now at.0 }
-    ensures word_value { result.word ≡ word_of (word_outcome s.now at.0) }
+// The word at a place, and the place after it.
+pub fn read_word(s: &[u8], at: ByteOffset) -> Result<([u64; 4], Cursor), Refused<ByteOffset>>
+    ensures { shown_read result ≡ word_outcome s.now at.0 }
 {
-    let answer = check_word(s, at);
-    match answer {
-        WordCheck::Whole(_) => WordRead {
-            answer,
-            word: word_at(s, at),
-        },
-        WordCheck::Refused(_, _) => WordRead {
-            answer,
-            word: [0; 4],
-        },
-    }
+    let next = check_word(s, at)?;
+    Ok((word_at(s, at), next))
 }
 
 // The order of two words: by the first element in which they differ, as numbers.
-pub fn word_order(a: [u64; 4], b: [u64; 4]) -> WordOrder
+pub fn word_order(a: [u64; 4], b: [u64; 4]) -> Ordering
     ensures { result ≡ word_order a b }
 {
-    for i in 0..4 {
-        let x = a[i];
-        let y = b[i];
-        if x < y {
-            return WordOrder::Below;
-        }
-        if y < x {
-            return WordOrder::Above;
-        }
-    }
-    WordOrder::Same
+    a.cmp(&b)
 }

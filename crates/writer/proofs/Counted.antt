@@ -1,9 +1,11 @@
 -- A count that is written into a part of its own length. Assumes nothing.
-use mathlib.Core.Path.{◌≡◌, ap, ◌∙◌}
-use mathlib.Core.List.{List, [], ◌∷◌, ◌++◌}
-use Prim.Native.Nat.{ℕ, ◌+◌, ◌^◌, ◌≤◌, ◌<◌}
+use mathlib.Core.Path.{◌≡◌, ◌∙◌}
+use mathlib.Core.List.{List, [], ◌∷◌, map}
+use Prim.Native.Nat.{ℕ, suc, ◌*◌, ◌^◌, ◌≤◌, ◌<◌}
 use native.Mathlib.Omega.{arith}
-use lib.ListN.{length, length-append}
+use lib.ListN.{length, get_or}
+use Rattle.wire.specs.Rows.{Below}
+use Rattle.writer.specs.Writer.{sum}
 use Rattle.wire.specs.Counts.{shortest_len, count_bytes, with_count}
 use Rattle.wire.proofs.Counts.{search_least, shortest_form, sets_whole, write_yes}
 use Rattle.wire.proofs.Forms.{length_form}
@@ -19,18 +21,11 @@ pub short_most : (v : ℕ) → shortest_len v ≤ 9
 unfolding shortest_len
 short_most v = (search_least 8 1 v).upto
 
--- the header has 8 bytes
-pub length_marks : (magic : List ℕ) (flags : ℕ) (version : List ℕ) → length magic ≡ 4 → length version ≡ 3 → length (magic ++ ((flags ∷ []) ++ version)) ≡ 8
-length_marks magic flags version m v = length-append magic _ ∙ omega (arith, m, v)
+pub short_all : (vs : List ℕ) → sum (map shortest_len vs) ≤ 9 * length vs
+short_all [] = omega arith
+short_all (v ∷ vs) = omega (arith, short_most v, short_all vs)
 
--- the header and two counts; a count and what it counts
-pub length-head : (magic : List ℕ) (flags : ℕ) (version : List ℕ) (i e : ℕ) → length magic ≡ 4 → length version ≡ 3 → i < 2 ^ 64 → e < 2 ^ 64
-    → length ((magic ++ ((flags ∷ []) ++ version)) ++ (count_bytes i ++ count_bytes e)) ≡ 8 + shortest_len i + shortest_len e
-length-head magic flags version i e m v hi he =
-    let marks = length_marks magic flags version m v in
-    let whole = length-append (magic ++ ((flags ∷ []) ++ version)) (count_bytes i ++ count_bytes e) in
-    let counts = length-append (count_bytes i) (count_bytes e) in
-    omega (arith, marks, whole, counts, length-count i hi, length-count e he)
-
-pub length-counted : (v : ℕ) (bs : List ℕ) → v < 2 ^ 64 → length (count_bytes v ++ bs) ≡ shortest_len v + length bs
-length-counted v bs h = length-append (count_bytes v) bs ∙ ap (λ (n : ℕ). n + length bs) (length-count v h)
+-- each number of a list that a slice of u64 shows
+pub all_below : (m : ℕ) (l : List ℕ) → ((i : ℕ) → get_or l i 0 < m) → Below m l
+all_below m [] h = tt
+all_below m (x ∷ l) h = (h 0, all_below m l (λ i. h (suc i)))

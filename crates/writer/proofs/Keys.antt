@@ -2,20 +2,31 @@
 -- Assumes nothing.
 use mathlib.Core.Path.{◌≡◌, refl, sym, ap, ◌∙◌}
 use mathlib.Core.List.{List, [], ◌∷◌}
-use mathlib.Core.Bool.{Bool, true, false, not, ◌&&◌}
+use mathlib.Core.Bool.{Bool, true, false}
 use mathlib.Core.Logic.{◌⊎◌, inr, ⊎_elim}
-use Prim.Native.Nat.{ℕ, suc, ◌+◌, ◌*◌, ◌≤◌, ◌<◌}
+use Prim.Native.Nat.{ℕ, zero, suc, ◌+◌, ◌-◌, ◌*◌, ◌≤◌, ◌<◌}
+use native.Mathlib.Nat.{sub-zero}
 use native.Mathlib.Numerals.{add-one}
 use native.Mathlib.Omega.{arith}
-use lib.ListN.{length, take, drop, get_or}
-use lib.Seq.{drop-cons, drop-length, drop-drop}
+use lib.ListN.{length, take, drop, drop_of_length-le}
+use lib.Seq.{take_all, drop-cons, drop-drop}
 use Rattle.wire.specs.Table.{Outcome, refused, accepted, pick, first_met, checked}
 use Rattle.wire.specs.Refusals.{ELEMENT, DUPLICATE}
-use Rattle.wire.specs.Words.{is_element, not_elements, word_order}
-use Rattle.wire.specs.declared.word.WordOrder.TheVariants.{Below, Same, Above}
+use Rattle.wire.specs.Words.{not_elements, word_order}
+use Rattle.std.specs.declared.cmp.Ordering.TheVariants.{Less, Equal, Greater}
 use Rattle.wire.proofs.Counts.{lt_or_ge}
-use Rattle.wire.proofs.Words.{elements_mean, order_irreflexive, order_transitive, order_same}
-use Rattle.keys.specs.Keys.{seen_key}
+use Rattle.wire.proofs.Words.{order_irreflexive, order_transitive, order_same}
+use Rattle.std.specs.declared.iter.Rev.{Rev}
+use Rattle.std.specs.declared.ops.Range.{Range}
+use Rattle.std.specs.Iterator.Adapters.{rev_source, rev_steps}
+use Rattle.std.specs.Range.{range_steps_back}
+use Rattle.std.specs.List.{list_any}
+use Rattle.std.specs.Cmp.Lexicographic.{pointwise, bytes_decides}
+use Rattle.std.specs.Prelude.{Option, Some, None, eqb}
+use Rattle.std.specs.declared.cmp.Ordering.{Ordering}
+use Rattle.std.proofs.lemmas.Iterator.{YieldsList}
+use Rattle.std.proofs.lemmas.Iterator.Consumers.{YieldsList-from_shown}
+use Rattle.keys.specs.Keys.{same_key, seen_key}
 use Rattle.keys.specs.Claim.{key_at, keys_before, claimed}
 use Rattle.keys.specs.declared.claim.Claim.{Claim}
 use Rattle.keys.specs.declared.claim.Claim.TheVariants.{Apart, Repeat}
@@ -24,34 +35,63 @@ use Rattle.keys.proofs.Claims.{claim_apart, claim_repeat}
 use Rattle.writer.specs.Writer.{key_rules}
 use Rattle.writer.specs.Inner.{Top, FirstTwice}
 
--- ---- a key of elements
+-- ---- the keys before a number
 
--- four tests of elements, as the code joins them
-pub four_elements_lem : (key : List ℕ) → length key ≡ 4
-    → ((is_element (get_or key 0 0) && is_element (get_or key 1 0)) && is_element (get_or key 2 0)) && is_element (get_or key 3 0) ≡ not (not_elements key)
-unfolding not_elements
-four_elements_lem [] e = let z : ◌≡◌ {A = ℕ} 0 4 = e in absurd (omega arith)
-four_elements_lem (a ∷ []) e = absurd (omega arith)
-four_elements_lem (a ∷ (b ∷ [])) e = absurd (omega arith)
-four_elements_lem (a ∷ (b ∷ (c ∷ []))) e = absurd (omega arith)
-four_elements_lem (a ∷ (b ∷ (c ∷ (d ∷ [])))) e =
-    twice (((is_element a && is_element b) && is_element c) && is_element d) ∙ ap not (sym (elements_mean (is_element a) (is_element b) (is_element c) (is_element d)))
+length-before : (keys : List ℕ) (n : ℕ) → length (keys_before keys n) ≡ n
+unfolding keys_before
+length-before keys zero = refl
+length-before keys (suc n) = ap suc (length-before keys n)
+
+abbrev pub steps_back : Rev (Range ℕ) → Option ℕ → Rev (Range ℕ) → Type 0
+steps_back = rev_steps (range_steps_back (λ x y. y - x) (λ x y. y ≡ x + 1))
+
+-- as `(0..n).rev()` takes them
+pub keys_back : (keys : List ℕ) (n : ℕ) {s : Rev (Range ℕ)} → rev_source s ≡ record { start = 0; end = n } → YieldsList steps_back (key_at keys) s (keys_before keys n)
+unfolding keys_before
+keys_back keys n {s} e =
+    let whole : left_back s ≡ keys_before keys n = rw (e, sub-zero) (take_all n (keys_before keys n) (omega (arith, length-before keys n))) in
+    rw whole at (YieldsList-from_shown steps_back (key_at keys) left_back none_left one_off s)
   where
-    twice : (b : Bool) → b ≡ not (not b)
-    twice true = refl
-    twice false = refl
-four_elements_lem (a ∷ (b ∷ (c ∷ (d ∷ (x ∷ l))))) e = absurd (omega arith)
+    -- the keys of the numbers that a range has left
+    left_back : Rev (Range ℕ) → List (List ℕ)
+    left_back u = take (u.iter.end - u.iter.start) (keys_before keys u.iter.end)
 
--- a test that is turned round, of a key that is or is not of elements
-pub word_told : (a b t : Bool) → a ≡ not b → not a ≡ t → b ≡ t
-word_told a true t p q = sym (ap not p) ∙ q
-word_told a false t p q = sym (ap not p) ∙ q
+    none_left : (u t : Rev (Range ℕ)) → steps_back u None t → length (left_back u) ≡ 0
+    none_left u t p = rw p.1.0
+
+    one_off : (u : Rev (Range ℕ)) (x : ℕ) (t : Rev (Range ℕ)) → steps_back u (Some x) t → left_back u ≡ key_at keys x ∷ left_back t
+    one_off u x t p =
+        let end : u.iter.end ≡ suc x = omega (arith, p.1) in
+        let many : u.iter.end - u.iter.start ≡ suc (t.iter.end - t.iter.start) = omega (arith, p.0, p.1) in
+        rw (many, end, p.1.1)
+
+-- keys are the same where their numbers are
+pub key_eq : (a b : List ℕ) → pointwise eqb a b ≡ same_key a b
+unfolding same_key
+key_eq a b = go (word_order a b) refl
+  where
+    decides : (pointwise eqb a b ≡ true → a ≡ b) × (a ≡ b → pointwise eqb a b ≡ true)
+    decides = bytes_decides a b
+
+    differ : (o : Ordering) → word_order a b ≡ o → (o ≡ Equal → ⊥) → (t : Bool) → pointwise eqb a b ≡ t → t ≡ false
+    differ o e n true q = absurd (n (sym e ∙ (order_same a b).1 (decides.0 q)))
+    differ o e n false q = refl
+
+    go : (o : Ordering) → word_order a b ≡ o → pointwise eqb a b ≡ same_key a b
+    go Equal e = rw e (decides.1 ((order_same a b).0 e))
+    go Less e = rw e (differ Less e (λ q. cc) (pointwise eqb a b) refl)
+    go Greater e = rw e (differ Greater e (λ q. cc) (pointwise eqb a b) refl)
+
+pub seen_any : (key : List ℕ) (ks : List (List ℕ)) → list_any (λ k. same_key k key) ks ≡ seen_key ks key
+unfolding seen_key
+seen_any key [] = refl
+seen_any key (k ∷ ks) = rw (seen_any key ks)
 
 -- ---- the highest key so far
 
 module _ (keys : List ℕ) (i top : ℕ) (key : List ℕ) where
   -- a key above the highest is none of them
-  pub above_all : Top keys i top → (word_order (key_at keys top) key ≡ Below) → seen_key (keys_before keys i) key ≡ false
+  pub above_all : Top keys i top → (word_order (key_at keys top) key ≡ Less) → seen_key (keys_before keys i) key ≡ false
   above_all t b =
       ⊎_elim
       (λ z. rw z (seen_none keys key))
@@ -60,16 +100,13 @@ module _ (keys : List ℕ) (i top : ℕ) (key : List ℕ) where
 
 -- and is the highest itself; any other leaves it so
 module _ (keys : List ℕ) (i top : ℕ) where
-  pub top_moves : Top keys i top → (i ≡ 0) ⊎ (word_order (key_at keys top) (key_at keys i) ≡ Below) → Top keys (i + 1) i
+  pub top_moves : Top keys i top → (i ≡ 0) ⊎ (word_order (key_at keys top) (key_at keys i) ≡ Less) → Top keys (i + 1) i
   top_moves t b = inr (omega arith, λ j l e. ⊎_elim (λ m. before j m e t b) (λ m. let same : j ≡ i = omega arith in itself (rw same at e)) (lt_or_ge j i))
     where
-      itself : word_order (key_at keys i) (key_at keys i) ≡ Below → ⊥
-      itself e = let n = order_irreflexive (key_at keys i) in apart (sym n ∙ e)
-        where
-          apart : Same ≡ Below → ⊥
-          apart q = let z : ◌≡◌ {A = ℕ} 0 1 = cc in omega arith
+      itself : word_order (key_at keys i) (key_at keys i) ≡ Less → ⊥
+      itself e = let n = order_irreflexive (key_at keys i) in cc
 
-      before : (j : ℕ) → j < i → word_order (key_at keys i) (key_at keys j) ≡ Below → Top keys i top → (i ≡ 0) ⊎ (word_order (key_at keys top) (key_at keys i) ≡ Below) → ⊥
+      before : (j : ℕ) → j < i → word_order (key_at keys i) (key_at keys j) ≡ Less → Top keys i top → (i ≡ 0) ⊎ (word_order (key_at keys top) (key_at keys i) ≡ Less) → ⊥
       before j m e t b =
           ⊎_elim
           (λ z. omega arith)
@@ -77,24 +114,19 @@ module _ (keys : List ℕ) (i top : ℕ) where
           t
 
   -- a key below the one at `top` is not the first
-  pub not_first : top ≤ i → word_order (key_at keys top) (key_at keys i) ≡ Above → i ≡ 0 → ⊥
+  pub not_first : top ≤ i → word_order (key_at keys top) (key_at keys i) ≡ Greater → i ≡ 0 → ⊥
   not_first h a z =
       let same : top ≡ i = omega arith in
-      let itself : word_order (key_at keys i) (key_at keys i) ≡ Above = rw same at a in
-      apart (sym (order_irreflexive (key_at keys i)) ∙ itself)
-    where
-      apart : Same ≡ Above → ⊥
-      apart q = let z : ◌≡◌ {A = ℕ} 0 1 = cc in omega arith
+      let itself : word_order (key_at keys i) (key_at keys i) ≡ Greater = rw same at a in
+      let n = order_irreflexive (key_at keys i) in
+      cc
 
-  pub top_stays : Top keys i top → word_order (key_at keys top) (key_at keys i) ≡ Above → (i ≡ 0 → ⊥) → Top keys (i + 1) top
+  pub top_stays : Top keys i top → word_order (key_at keys top) (key_at keys i) ≡ Greater → (i ≡ 0 → ⊥) → Top keys (i + 1) top
   top_stays t a n =
       ⊎_elim
       (λ z. absurd (n z))
-      (λ k. inr (omega arith, λ j l e. ⊎_elim (λ m. k.1 j m e) (λ m. let same : j ≡ i = omega arith in apart (sym a ∙ rw same at e)) (lt_or_ge j i)))
+      (λ k. inr (omega arith, λ j l e. ⊎_elim (λ m. k.1 j m e) (λ m. let same : j ≡ i = omega arith in let less = rw same at e in cc) (lt_or_ge j i)))
       t
-    where
-      apart : Above ≡ Below → ⊥
-      apart q = let z : ◌≡◌ {A = ℕ} 0 1 = cc in omega arith
 
 -- ---- the rules from number i on
 
@@ -115,18 +147,19 @@ module _ (keys lengths : List ℕ) (i : ℕ) where
         let whole : key_at keys i ≡ take 4 (drop (4 * i) keys) = key_whole keys i (omega arith) in
         rw (add-one, drop-cons lengths i 0 h, four, drop-drop, whole) (rw add-one)
 
-    pub no_word : not_elements (key_at keys i) ≡ true → refused ELEMENT i ≡ left keys lengths i
-    no_word e = sym (unroll ∙ rw e)
+    module _ {key : List ℕ} (here : key ≡ key_at keys i) where
+      pub no_word : true ≡ not_elements key → refused ELEMENT i ≡ left keys lengths i
+      no_word e = sym (unroll ∙ rw (← here, ← e))
 
-    pub repeated : not_elements (key_at keys i) ≡ false → seen_key (keys_before keys i) (key_at keys i) ≡ true → refused DUPLICATE i ≡ left keys lengths i
-    repeated e d = sym (unroll ∙ rw (e, d))
+      pub repeated : false ≡ not_elements key → seen_key (keys_before keys i) key ≡ true → refused DUPLICATE i ≡ left keys lengths i
+      repeated e d = sym (unroll ∙ rw (← here, ← e, d))
 
-    pub new_key : not_elements (key_at keys i) ≡ false → seen_key (keys_before keys i) (key_at keys i) ≡ false → left keys lengths i ≡ left keys lengths (i + 1)
-    new_key e d = unroll ∙ rw (e, d)
+      pub new_key : false ≡ not_elements key → seen_key (keys_before keys i) key ≡ false → left keys lengths (i + 1) ≡ left keys lengths i
+      new_key e d = sym (unroll ∙ rw (← here, ← e, d))
 
-  pub left_none : i ≡ length lengths → left keys lengths i ≡ accepted tt
+  pub left_none : length lengths ≤ i → accepted tt ≡ left keys lengths i
   unfolding key_rules first_met
-  left_none e = rw (e, drop-length lengths)
+  left_none e = rw (drop_of_length-le lengths e)
 
 -- ---- what a claim tells of the keys
 

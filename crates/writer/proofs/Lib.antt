@@ -1,5 +1,3 @@
-pub mod Lent
-pub mod Digits
 pub mod Rows
 pub mod Counted
 pub mod Words
@@ -9,4 +7,3 @@ pub mod Fits
 pub mod Entries
 pub mod Sizes
 pub mod Split
-pub mod Answers

@@ -1,15 +1,13 @@
--- The writer's table is the stages' segments, one after the other; what they accept fits; and the cases of the room.
+-- The writer's table is the stages' segments, one after the other; and what they accept fits.
 -- Assumes nothing.
 use mathlib.Core.Path.{◌≡◌, refl, sym, ap, ◌∙◌}
 use mathlib.Core.Bool.{Bool, true, false, not}
 use mathlib.Core.List.{List, [], ◌++◌, append_assoc}
-use Prim.Native.Nat.{ℕ, ◌-◌, ◌^◌, ◌≤◌, ◌<◌}
-use native.Mathlib.Omega.{arith}
+use Prim.Native.Nat.{ℕ, ◌-◌}
 use lib.Dec.{eqb}
-use lib.ListN.{length}
-use borrow.Author.Tests.{lt-ltb, le-ltb, eqb-true}
+use lib.ListN.{length, drop}
+use borrow.Author.Tests.{eqb-true}
 use Rattle.wire.specs.Table.{Rule, Outcome, refused, accepted, first_met, ◌>>=◌}
-use Rattle.wire.specs.Refusals.{OVERFLOW, ROOM}
 use Rattle.wire.proofs.Tables.{accepted_none, none_parts}
 use Rattle.wire.proofs.Stages.{in_turn, in_the_end}
 use Rattle.layout.specs.Facts.{share}
@@ -17,7 +15,9 @@ use Rattle.layout.specs.Scan.{words_rules, externals}
 use Rattle.layout.specs.declared.facts.FormatFacts.{FormatFacts}
 use Rattle.writer.specs.Parts.{Parts}
 use Rattle.writer.specs.Writer.{key_rules, written_file, writer_rules, write_outcome, output_of, output_after}
-use Rattle.writer.specs.Inner.{head_rules, part_rules, room_rules, words_outcome, fit_outcome, Fitting}
+use Rattle.writer.proofs.Words.{externals_few}
+use Rattle.writer.specs.Inner.{head_rules, part_rules, room_rules, words_outcome, fit_outcome, file_size, Fitting, Numbered}
+use Rattle.writer.proofs.Sizes.{length-file}
 
 module _ (f : FormatFacts) (p : Parts) where
   abbrev size : ℕ
@@ -63,7 +63,7 @@ module _ (f : FormatFacts) (p : Parts) where
       let after_head = (none_parts (head_rules f p.flags (length p.words)) _ k.0).1 in
       let after_words = none_parts (words_rules 1 0 p.words) _ after_head in
       let lengths = (none_parts (parts (externals p.words)) keys after_words.1).0 in
-      record { words = after_words.0; external = sym k.1; keys = equal _ _ lengths.1.1.0; values = equal _ _ lengths.1.1.1.0 }
+      record { words = after_words.0; few = rw (← k.1) (externals_few p.words); external = sym k.1; keys = equal _ _ lengths.1.1.0; values = equal _ _ lengths.1.1.1.0 }
     where
       equal : (a b : ℕ) → not (eqb a b) ≡ false → a ≡ b
       equal a b n = eqb-true a b (turned (eqb a b) n)
@@ -72,33 +72,25 @@ module _ (f : FormatFacts) (p : Parts) where
           turned true q = refl
           turned false q = cc
 
-  -- a refusal stands, and leaves the output
-  pub refuses : (n place : ℕ) (out : List ℕ) → refused n place ≡ fit_outcome f p → (refused n place ≡ write_outcome f p (length out)) × (out ≡ output_after f p out)
-  unfolding output_after ◌>>=◌
-  refuses n place out e =
-      let said : refused n place ≡ write_outcome f p (length out) = ap (λ (o : Outcome ℕ). o >>= (λ _. first_met (room_rules size (length out)) size)) e ∙ sym (split (length out)) in
-      (said, ap (output_of (written_file f p) out) said)
+  module _ (out : List ℕ) where
+    -- a refusal before the size stands
+    pub stopped : {n place : ℕ} → refused n place ≡ fit_outcome f p → refused n place ≡ write_outcome f p (length out)
+    unfolding ◌>>=◌
+    stopped e = ap (λ (o : Outcome ℕ). o >>= (λ _. first_met (room_rules size (length out)) size)) e ∙ sym (split (length out))
 
-  -- after it, the room decides
-  pub decides : (x : ℕ) (out left : List ℕ) (r : Outcome ℕ) → accepted x ≡ fit_outcome f p → r ≡ first_met (room_rules size (length out)) size → left ≡ output_of (written_file f p) out r
-      → (r ≡ write_outcome f p (length out)) × (left ≡ output_after f p out)
-  unfolding output_after ◌>>=◌
-  decides x out left r e said kept =
-      let whole : r ≡ write_outcome f p (length out) =
-      said ∙ ap (λ (o : Outcome ℕ). o >>= (λ _. first_met (room_rules size (length out)) size)) e ∙ sym (split (length out)) in
-      (whole, kept ∙ ap (output_of (written_file f p) out) whole)
+    -- after it, the room decides
+    pub decided : {x : ℕ} {r : Outcome ℕ} → accepted x ≡ fit_outcome f p → length f.magic ≡ 4 → length f.version ≡ 3 → Numbered p
+        → r ≡ first_met (room_rules (file_size 8 p x) (length out)) (file_size 8 p x) → r ≡ write_outcome f p (length out)
+    unfolding ◌>>=◌
+    decided {x} e magic version numbered said =
+        rw (← length-file f p x (fitting x (sym e)) magic version numbered) at said
+        ∙ ap (λ (o : Outcome ℕ). o >>= (λ _. first_met (room_rules size (length out)) size)) e ∙ sym (split (length out))
 
--- ---- the room: the bytes needed, and those that there are
+    -- what the output is then
+    pub as_it_was : {n place : ℕ} → refused n place ≡ write_outcome f p (length out) → out ≡ output_after f p out
+    unfolding output_after
+    as_it_was e = ap (output_of (written_file f p) out) e
 
-module _ (n room : ℕ) where
-  pub overflow : 2 ^ 64 ≤ n → refused OVERFLOW 0 ≡ first_met (room_rules n room) n
-  unfolding room_rules first_met
-  overflow h = rw (lt-ltb (2 ^ 64 - 1) n (omega arith))
-
-  pub no_room_lem : {m : ℕ} → m ≡ n → n < 2 ^ 64 → room < n → refused ROOM m ≡ first_met (room_rules n room) n
-  unfolding room_rules first_met
-  no_room_lem e h g = rw (le-ltb (2 ^ 64 - 1) n (omega arith), lt-ltb room n g, e)
-
-  pub enough : {m : ℕ} → m ≡ n → n < 2 ^ 64 → n ≤ room → accepted m ≡ first_met (room_rules n room) n
-  unfolding room_rules first_met
-  enough e h g = rw (le-ltb (2 ^ 64 - 1) n (omega arith), le-ltb room n g, e)
+    pub overwritten : {n : ℕ} {file : List ℕ} → accepted n ≡ write_outcome f p (length out) → file ≡ written_file f p → file ++ drop n out ≡ output_after f p out
+    unfolding output_after
+    overwritten {n} e w = ap (λ (l : List ℕ). l ++ drop n out) w ∙ ap (output_of (written_file f p) out) e

@@ -1,13 +1,13 @@
 -- Inner contracts only: the writer's table in segments, one for each stage of the code; sizes; and how a key stands among the earlier ones.
 -- A reader who believes the table of Writer need not read them: proofs/Split.antt shows that they say what the table says.
-use Rattle.std.specs.Prelude.{ℕ, ◌+◌, ◌-◌, ◌*◌, ◌^◌, ◌<◌, ◌≡◌, Bool, true, false, not, List, [], ◌∷◌, map, ◌⊎◌, length, ltb, eqb}
-use Rattle.wire.specs.Table.{Rule, rule, Outcome, refused, accepted, pick, first_met, checked, NoneMet, ◌>>=◌}
-use Rattle.wire.specs.Refusals.{FLAGS, OVERFLOW, TOO-MANY, ROOM, FORMAT, PARTS, number_of}
+use Rattle.std.specs.Prelude.{ℕ, ◌+◌, ◌-◌, ◌*◌, ◌^◌, ◌≤◌, ◌<◌, ◌≡◌, Bool, true, false, not, List, [], ◌∷◌, map, ◌⊎◌, length, ltb, eqb}
+use Rattle.wire.specs.Table.{Rule, rule, Outcome, accepted, first_met, checked, NoneMet, ◌>>=◌}
+use Rattle.wire.specs.Refusals.{FLAGS, OVERFLOW, TOO-MANY, ROOM, FORMAT, PARTS}
 use Rattle.wire.specs.Le.{over}
 use Rattle.wire.specs.Rows.{Below as AllBelow}
 use Rattle.wire.specs.Counts.{shortest_len}
 use Rattle.wire.specs.Words.{word_order}
-use Rattle.wire.specs.declared.word.WordOrder.TheVariants.{Below, Above}
+use Rattle.std.specs.declared.cmp.Ordering.TheVariants.{Less, Greater}
 use Rattle.layout.specs.Facts.{share, bad_format, hash_bytes}
 use Rattle.layout.specs.Scan.{words_rules, externals}
 use Rattle.layout.specs.declared.facts.FormatFacts.{FormatFacts}
@@ -15,25 +15,8 @@ use Rattle.keys.specs.Keys.{seen_key}
 use Rattle.keys.specs.Claim.{key_at, keys_before}
 use Rattle.writer.specs.Parts.{Parts}
 use Rattle.writer.specs.Writer.{sum, key_rules}
-use Rattle.writer.specs.declared.check.PartsCheck.{PartsCheck}
-use Rattle.writer.specs.declared.check.PartsCheck.TheVariants as check
-use Rattle.writer.specs.declared.check.Nodes.{Nodes}
-use Rattle.writer.specs.declared.check.Nodes.TheVariants as nodes
 use Rattle.writer.specs.declared.key.Standing.{Standing}
 use Rattle.writer.specs.declared.key.Standing.TheVariants.{Highest, Between, Repeated}
-use Rattle.writer.specs.declared.size.Sum.{Sum}
-use Rattle.writer.specs.declared.size.Sum.TheVariants.{Is, Over}
-
--- ---- what the stages answer
-
-abbrev pub shown_check : PartsCheck → Outcome (Unit {0})
-shown_check check.Fit = accepted tt
-shown_check (check.Refused why at) = refused (number_of why) at
-
--- the number of nodes that are External
-abbrev pub shown_nodes : Nodes → Outcome ℕ
-shown_nodes (nodes.Counted n) = accepted n
-shown_nodes (nodes.Refused why at) = refused (number_of why) at
 
 -- ---- the segments
 
@@ -73,12 +56,12 @@ fit_outcome f p =
 
 -- no key before number i is above the one at `top`
 abbrev pub Top : List ℕ → ℕ → ℕ → Type 0
-Top keys i top = (i ≡ 0) ⊎ ((top < i) × ((j : ℕ) → j < i → word_order (key_at keys top) (key_at keys j) ≡ Below → ⊥))
+Top keys i top = (i ≡ 0) ⊎ ((top < i) × ((j : ℕ) → j < i → word_order (key_at keys top) (key_at keys j) ≡ Less → ⊥))
 
 -- what is known of a key among those before number i, of which `top` is the highest
 abbrev pub Told : Standing → List ℕ → ℕ → ℕ → List ℕ → Type 0
-Told Highest keys i top key = (seen_key (keys_before keys i) key ≡ false) × ((i ≡ 0) ⊎ (word_order (key_at keys top) key ≡ Below))
-Told Between keys i top key = (seen_key (keys_before keys i) key ≡ false) × (word_order (key_at keys top) key ≡ Above)
+Told Highest keys i top key = (seen_key (keys_before keys i) key ≡ false) × ((i ≡ 0) ⊎ (word_order (key_at keys top) key ≡ Less))
+Told Between keys i top key = (seen_key (keys_before keys i) key ≡ false) × (word_order (key_at keys top) key ≡ Greater)
 Told Repeated keys i top key = seen_key (keys_before keys i) key ≡ true
 
 -- the first of n keys that an earlier one is has the number `twice`; where there is none, n stands for it
@@ -88,14 +71,6 @@ FirstTwice keys n twice =
     × (twice < n → seen_key (keys_before keys twice) (key_at keys twice) ≡ true)
 
 -- ---- sizes
-
-unfoldable pub sum_of : ℕ → Sum
-sum_of n = pick (ltb n (2 ^ 64)) (Is n) Over
-
--- a sum with n more
-unfoldable pub plus_of : Sum → ℕ → Sum
-plus_of (Is a) n = sum_of (a + n)
-plus_of Over n = Over
 
 -- the bytes of the header, and of the counts that are not lengths of values
 abbrev pub counts_size : ℕ → ℕ → ℕ → ℕ → ℕ → ℕ → ℕ
@@ -118,6 +93,7 @@ file_size header p x =
 -- what is known of parts that fit, with so many externals
 pub record Fitting (p : Parts) (x : ℕ) : Type 0 where
   pub words : NoneMet (words_rules 1 0 p.words)
+  pub few : x ≤ length p.words
   pub external : x ≡ externals p.words
   pub keys : length p.keys ≡ 4 * length p.lengths
   pub values : length p.values ≡ sum p.lengths

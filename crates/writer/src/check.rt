@@ -1,148 +1,90 @@
 // What is judged before a byte is counted: the format, the flags, the entry words, how the parts fit
 // together, and the keys.
-ghost use Rattle.std.specs.Prelude.{◌≡◌, not, [], ◌^◌, ◌≤◌, eqb};
+ghost use Rattle.std.specs.Prelude.{◌≡◌, ◌-◌, ◌^◌, ◌≤◌, eqb, length};
 ghost use Rattle.wire.specs.Table.{checked};
-ghost use Rattle.layout.specs.Facts.{hash_bytes};
-ghost use Rattle.writer.specs.Shown.{lent};
+ghost use Rattle.wire.specs.Shown.{shown_by};
+ghost use Rattle.writer.specs.Shown.{lent_parts};
 ghost use Rattle.writer.specs.Writer.{sum};
-ghost use Rattle.writer.specs.Inner.{shown_check, shown_nodes, head_rules, part_rules, words_outcome, fit_outcome};
+ghost use Rattle.writer.specs.Inner.{head_rules, part_rules, fit_outcome};
 
 use crate::key::check_keys_claimed;
-use layout::facts::{FormatFacts, bad_format};
-use rows::{EntryPass, read_words};
-use wire::refusal::Refusal;
+use crate::parts::Parts;
+use layout::facts::{FormatFacts, bad_format, hash_count};
+use rows::read_words;
+use wire::refusal::{Refusal, Refused};
 
-#[derive(Clone, Copy)]
-pub(crate) enum PartsCheck {
-    Fit,
-    Refused(Refusal, usize),
-}
-
-// The nodes are in order, so many of them External.
-#[derive(Clone, Copy)]
-pub(crate) enum Nodes {
-    Counted(usize),
-    Refused(Refusal, usize),
-}
-
-fn check_head(f: FormatFacts, flags: u8, nodes: usize) -> PartsCheck
-    ensures { shown_check result ≡ checked (head_rules f flags nodes) }
+#[tactic(auto, unfolding(wire::specs::Table::first_met, crate::specs::Inner::head_rules))]
+fn check_head(f: FormatFacts, flags: u8, nodes: usize) -> Result<(), Refused<usize>>
+    ensures { shown_by (λ u. u) result ≡ checked (head_rules f flags nodes) }
 {
-    let reserved = flags & f.reserved != 0;
     if bad_format(f) {
-        return PartsCheck::Refused(Refusal::Format, 0);
+        return Err(Refused {
+            why: Refusal::Format,
+            at: 0,
+        });
     }
-    if reserved {
-        return PartsCheck::Refused(Refusal::Flags, 4);
+    if flags & f.reserved != 0 {
+        return Err(Refused {
+            why: Refusal::Flags,
+            at: 4,
+        });
     }
     if f.max_nodes < nodes {
-        return PartsCheck::Refused(Refusal::TooMany, 0);
+        return Err(Refused {
+            why: Refusal::TooMany,
+            at: 0,
+        });
     }
-    PartsCheck::Fit
+    Ok(())
 }
 
-// Each entry word: TAG or PAYLOAD at the first node that has none.
-fn check_words(words: &[u64]) -> Nodes
-    ensures { shown_nodes result ≡ words_outcome words.now }
-{
-    match read_words(words) {
-        EntryPass::Refused(why, at) => Nodes::Refused(why, at),
-        EntryPass::Clean(externals) => Nodes::Counted(externals),
-    }
-}
-
-// The bytes of the hashes: 32 an internal node, none where the file is hashless.
-fn hash_bytes(hashless: bool, internal: usize) -> usize
-    requires { internal ≤ 2 ^ 30 }
-    ensures { result ≡ hash_bytes hashless internal }
-{
-    if hashless { 0 } else { 32 * internal }
-}
-
-// Whether so many values are not the sum of the lengths. What is left is lessened, so that no sum wraps.
-fn lengths_differ(values: usize, lengths: &[u64]) -> bool
-    ensures { result ≡ not (eqb values (sum lengths.now)) }
+// Whether the lengths' sum is so many values. What is left is lessened, so that no sum wraps.
+fn lengths_sum_to(values: usize, lengths: &[u64]) -> bool
+    ensures { result ≡ eqb values (sum lengths.now) }
 {
     let mut left = values as u64;
-    let mut i = 0;
-    while i < lengths.len() {
-        if left < lengths[i] {
-            return true;
+    for &n in lengths {
+        let Some(rest) = left.checked_sub(n) else {
+            return false;
+        };
+        left = rest;
+    }
+    left == 0
+}
+
+impl Parts<'_> {
+    // PARTS 1 to 4, by the lengths of the parts.
+    #[tactic(auto, unfolding(wire::specs::Table::first_met, crate::specs::Inner::part_rules))]
+    fn check_lengths(&self, hashless: bool, externals: usize) -> Result<(), Refused<usize>>
+        requires { (externals ≤ length self.now.words.now) × (length self.now.words.now ≤ 2 ^ 30) }
+        ensures { shown_by (λ u. u) result ≡ checked (part_rules hashless (length self.now.words.now - externals) externals (length self.now.external.now) (length self.now.hashes.now) (length self.now.keys.now) (length self.now.values.now) self.now.lengths.now) }
+    {
+        let why = Refusal::Parts;
+        if self.external.len() != 32 * externals {
+            return Err(Refused { why, at: 1 });
         }
-        left -= lengths[i];
-        i += 1;
+        if self.hashes.len() != 32 * hash_count(hashless, self.words.len() - externals) {
+            return Err(Refused { why, at: 2 });
+        }
+        if self.keys.len() != 4 * self.lengths.len() {
+            return Err(Refused { why, at: 3 });
+        }
+        if !lengths_sum_to(self.values.len(), self.lengths) {
+            return Err(Refused { why, at: 4 });
+        }
+        Ok(())
     }
-    left != 0
-}
 
-// PARTS 1 to 4, by the lengths of the parts.
-fn check_lengths(
-    hashless: bool,
-    internal: usize,
-    externals: usize,
-    external: usize,
-    hashes: usize,
-    keys: usize,
-    values: usize,
-    lengths: &[u64],
-) -> PartsCheck
-    requires { (internal ≤ 2 ^ 30) × (externals ≤ 2 ^ 30) }
-    ensures { shown_check result ≡ checked (part_rules hashless internal externals external hashes keys values lengths.now) }
-{
-    if external != 32 * externals {
-        return PartsCheck::Refused(Refusal::Parts, 1);
-    }
-    if hashes != hash_bytes(hashless, internal) {
-        return PartsCheck::Refused(Refusal::Parts, 2);
-    }
-    if keys != 4 * lengths.len() {
-        return PartsCheck::Refused(Refusal::Parts, 3);
-    }
-    if lengths_differ(values, lengths) {
-        return PartsCheck::Refused(Refusal::Parts, 4);
-    }
-    PartsCheck::Fit
-}
-
-// All that is judged before the size, and how many nodes are External. Roots and blocks are not judged. `order` is a claim
-// on the keys' order.
-pub(crate) fn check_parts(
-    f: FormatFacts,
-    flags: u8,
-    words: &[u64],
-    external: &[u8],
-    hashes: &[u8],
-    keys: &[u64],
-    lengths: &[u64],
-    values: &[u64],
-    order: &[u64],
-) -> Nodes
-    ensures { shown_nodes result ≡ fit_outcome f (lent flags [] [] words.now external.now hashes.now keys.now lengths.now values.now) }
-{
-    let hashless = flags & f.hashless != 0;
-    match check_head(f, flags, words.len()) {
-        PartsCheck::Refused(why, at) => Nodes::Refused(why, at),
-        PartsCheck::Fit => match check_words(words) {
-            Nodes::Refused(why, at) => Nodes::Refused(why, at),
-            Nodes::Counted(externals) => {
-                let internal = words.len() - externals;
-                match check_lengths(
-                    hashless,
-                    internal,
-                    externals,
-                    external.len(),
-                    hashes.len(),
-                    keys.len(),
-                    values.len(),
-                    lengths,
-                ) {
-                    PartsCheck::Refused(why, at) => Nodes::Refused(why, at),
-                    PartsCheck::Fit => match check_keys_claimed(keys, lengths, order) {
-                        PartsCheck::Refused(why, at) => Nodes::Refused(why, at),
-                        PartsCheck::Fit => Nodes::Counted(externals),
-                    },
-                }
-            }
-        },
+    // All that is judged before the size, and how many nodes are External. Roots and blocks are not judged. `order` is a
+    // claim on the keys' order.
+    #[tactic(auto, using(crate::proofs::Fits::few_nodes, crate::proofs::Fits::few_externals, crate::proofs::Fits::keys_whole))]
+    pub(crate) fn check(&self, f: FormatFacts, order: &[u64]) -> Result<usize, Refused<usize>>
+        ensures { shown_by (λ n. n) result ≡ fit_outcome f (lent_parts self.now) }
+    {
+        check_head(f, self.flags, self.words.len())?;
+        let externals = read_words(self.words)?;
+        self.check_lengths(self.flags & f.hashless != 0, externals)?;
+        check_keys_claimed(self.keys, self.lengths, order)?;
+        Ok(externals)
     }
 }

@@ -1,28 +1,26 @@
-// Groups of at most three sections: a group is a section, with the same kind of contract. Each section
-// goes into its own part, from its start to the next one's.
+// Groups of sections: a group is a section, with the same kind of contract. Each section goes into a part of its own.
 ghost use Rattle.std.specs.Prelude.{◌≡◌, [], ◌∷◌, ◌++◌, map, ◌+◌, ◌*◌, length};
 ghost use Rattle.wire.specs.Rows.{rows};
 ghost use Rattle.wire.specs.Counts.{shortest_len, count_bytes};
 ghost use Rattle.info.specs.Entry.{canonical};
 ghost use Rattle.writer.specs.Writer.{sum, advice_bytes};
 
-use crate::section::{put_bytes, put_count, put_entries, put_roots, put_words};
+use crate::parts::Parts;
+use crate::section::{put_count, put_rows};
+use info::canonical_word;
 use layout::facts::FormatFacts;
 use wire::count::shortest_len;
 
 // Magic, flags, version.
-fn write_marks(magic: [u8; 4], flags: u8, version: [u8; 3], part: &mut [u8])
+fn write_marks(f: FormatFacts, flags: u8, part: &mut [u8])
     requires { length part.old ≡ 8 }
-    ensures { part.new ≡ magic ++ ((flags ∷ []) ++ version) }
+    ensures { part.new ≡ f.magic ++ ((flags ∷ []) ++ f.version) }
 {
-    part[0] = magic[0];
-    part[1] = magic[1];
-    part[2] = magic[2];
-    part[3] = magic[3];
-    part[4] = flags;
-    part[5] = version[0];
-    part[6] = version[1];
-    part[7] = version[2];
+    let (magic, rest) = part.split_at_mut(4);
+    let (flag, version) = rest.split_at_mut(1);
+    magic.copy_from_slice(&f.magic);
+    flag.copy_from_slice(&[flags]);
+    version.copy_from_slice(&f.version);
 }
 
 // The header, and the two node counts.
@@ -33,49 +31,44 @@ pub(crate) fn write_head(
     external: usize,
     part: &mut [u8],
 )
-    requires { (length f.magic ≡ 4) × (length f.version ≡ 3) × (length part.old ≡ 8 + shortest_len internal + shortest_len external) }
+    requires { length part.old ≡ 8 + shortest_len internal + shortest_len external }
     ensures { part.new ≡ (f.magic ++ ((flags ∷ []) ++ f.version)) ++ (count_bytes internal ++ count_bytes external) }
 {
-    let magic = f.magic;
-    let version = f.version;
-    let external_at = 8 + shortest_len(internal as u64);
-    let end = external_at + shortest_len(external as u64);
-    write_marks(magic, flags, version, &mut part[0..8]);
-    put_count(internal as u64, &mut part[8..external_at]);
-    put_count(external as u64, &mut part[external_at..end]);
+    let (marks, counts) = part.split_at_mut(8);
+    let (first, second) = counts.split_at_mut(shortest_len(internal as u64));
+    write_marks(f, flags, marks);
+    put_count(internal, first);
+    put_count(external, second);
 }
 
 pub(crate) fn write_roots(roots: &[u32], part: &mut [u8])
     requires { length part.old ≡ shortest_len (length roots.now) + 4 * length roots.now }
     ensures { part.new ≡ count_bytes (length roots.now) ++ rows 4 roots.now }
 {
-    let rows_at = shortest_len(roots.len() as u64);
-    let end = rows_at + 4 * roots.len();
-    put_count(roots.len() as u64, &mut part[0..rows_at]);
-    put_roots(roots, &mut part[rows_at..end]);
+    let (count, rows) = part.split_at_mut(shortest_len(roots.len() as u64));
+    put_count(roots.len(), count);
+    put_rows::<4, _, _>(roots, u64::from, rows);
 }
 
 pub(crate) fn write_blocks(blocks: &[u8], part: &mut [u8])
     requires { length part.old ≡ shortest_len (length blocks.now) + length blocks.now }
     ensures { part.new ≡ count_bytes (length blocks.now) ++ blocks.now }
 {
-    let data_at = shortest_len(blocks.len() as u64);
-    let end = data_at + blocks.len();
-    put_count(blocks.len() as u64, &mut part[0..data_at]);
-    put_bytes(blocks, &mut part[data_at..end]);
+    let (count, bytes) = part.split_at_mut(shortest_len(blocks.len() as u64));
+    put_count(blocks.len(), count);
+    bytes.copy_from_slice(blocks);
 }
 
 // Entries in their written form, external digests, hashes.
-pub(crate) fn write_nodes(words: &[u64], external: &[u8], hashes: &[u8], part: &mut [u8])
-    requires { length part.old ≡ 8 * length words.now + length external.now + length hashes.now }
-    ensures { part.new ≡ rows 8 (map canonical words.now) ++ (external.now ++ hashes.now) }
+pub(crate) fn write_nodes(parts: &Parts<'_>, part: &mut [u8])
+    requires { length part.old ≡ 8 * length parts.now.words.now + length parts.now.external.now + length parts.now.hashes.now }
+    ensures { part.new ≡ rows 8 (map canonical parts.now.words.now) ++ (parts.now.external.now ++ parts.now.hashes.now) }
 {
-    let digests_at = 8 * words.len();
-    let hashes_at = digests_at + external.len();
-    let end = hashes_at + hashes.len();
-    put_entries(words, &mut part[0..digests_at]);
-    put_bytes(external, &mut part[digests_at..hashes_at]);
-    put_bytes(hashes, &mut part[hashes_at..end]);
+    let (entries, digests) = part.split_at_mut(8 * parts.words.len());
+    let (external, hashes) = digests.split_at_mut(parts.external.len());
+    put_rows::<8, _, _>(parts.words, canonical_word, entries);
+    external.copy_from_slice(parts.external);
+    hashes.copy_from_slice(parts.hashes);
 }
 
 // One entry of the map: its key, the number of its values, and these.
@@ -83,49 +76,39 @@ fn write_entry(key: &[u64], values: &[u64], part: &mut [u8])
     requires { length part.old ≡ 8 * length key.now + shortest_len (length values.now) + 8 * length values.now }
     ensures { part.new ≡ rows 8 key.now ++ (count_bytes (length values.now) ++ rows 8 values.now) }
 {
-    let length_at = 8 * key.len();
-    let values_at = length_at + shortest_len(values.len() as u64);
-    let end = values_at + 8 * values.len();
-    put_words(key, &mut part[0..length_at]);
-    put_count(values.len() as u64, &mut part[length_at..values_at]);
-    put_words(values, &mut part[values_at..end]);
+    let (first, rest) = part.split_at_mut(8 * key.len());
+    let (count, rows) = rest.split_at_mut(shortest_len(values.len() as u64));
+    put_rows::<8, _, _>(key, |x| x, first);
+    put_count(values.len(), count);
+    put_rows::<8, _, _>(values, |x| x, rows);
 }
 
 // The entries of the map, each into its own part.
+#[tactic(auto, using(crate::proofs::Entries::entry_room, crate::proofs::Entries::values_there))]
 fn write_entries(keys: &[u64], lengths: &[u64], values: &[u64], part: &mut [u8])
     requires keys_len { (length keys.now ≡ 4 * length lengths.now) × (length values.now ≡ sum lengths.now) }
-    requires part_len { length part.old ≡ length (advice_bytes keys.now lengths.now values.now) }
+    requires part_len { length part.old ≡ 8 * length keys.now + sum (map shortest_len lengths.now) + 8 * length values.now }
     ensures { part.new ≡ advice_bytes keys.now lengths.now values.now }
 {
+    // By a place: had the part itself moved on (`part = rest`), a proof would not know what was written.
     let mut at = 0;
-    let mut key = 0;
-    let mut value = 0;
-    let mut i = 0;
-    while i < lengths.len() {
-        let n = lengths[i] as usize;
-        let end = at + (32 + shortest_len(lengths[i]) + 8 * n);
-        let key_end = key + 4;
-        let value_end = value + n;
-        write_entry(
-            &keys[key..key_end],
-            &values[value..value_end],
-            &mut part[at..end],
-        );
+    let mut left = values;
+    for (i, &n) in lengths.iter().enumerate() {
+        let (own, others) = left.split_at(n as usize);
+        let end = at + (32 + shortest_len(n) + 8 * own.len());
+        write_entry(&keys[4 * i..4 * i + 4], own, &mut part[at..end]);
         at = end;
-        key = key_end;
-        value = value_end;
-        i += 1;
+        left = others;
     }
 }
 
 // The map: the number of its entries, and these.
-pub(crate) fn write_map(keys: &[u64], lengths: &[u64], values: &[u64], part: &mut [u8])
-    requires keys_len { (length keys.now ≡ 4 * length lengths.now) × (length values.now ≡ sum lengths.now) }
-    requires part_len { length part.old ≡ shortest_len (length lengths.now) + length (advice_bytes keys.now lengths.now values.now) }
-    ensures { part.new ≡ count_bytes (length lengths.now) ++ advice_bytes keys.now lengths.now values.now }
+pub(crate) fn write_map(parts: &Parts<'_>, part: &mut [u8])
+    requires keys_len { (length parts.now.keys.now ≡ 4 * length parts.now.lengths.now) × (length parts.now.values.now ≡ sum parts.now.lengths.now) }
+    requires part_len { length part.old ≡ shortest_len (length parts.now.lengths.now) + 8 * length parts.now.keys.now + sum (map shortest_len parts.now.lengths.now) + 8 * length parts.now.values.now }
+    ensures { part.new ≡ count_bytes (length parts.now.lengths.now) ++ advice_bytes parts.now.keys.now parts.now.lengths.now parts.now.values.now }
 {
-    let entries_at = shortest_len(lengths.len() as u64);
-    let end = entries_at + (part.len() - entries_at);
-    put_count(lengths.len() as u64, &mut part[0..entries_at]);
-    write_entries(keys, lengths, values, &mut part[entries_at..end]);
+    let (count, entries) = part.split_at_mut(shortest_len(parts.lengths.len() as u64));
+    put_count(parts.lengths.len(), count);
+    write_entries(parts.keys, parts.lengths, parts.values, entries);
 }

@@ -1,18 +1,19 @@
 // The keys of the map, four numbers each: every one of elements, and none an earlier one again. Where a claim on their
 // order is true, it tells the first that is. Else keys that rise cost one comparison each, and a key below an earlier one is
 // held against all of them.
-ghost use Rattle.std.specs.Prelude.{◌≡◌, not, [], ◌*◌, length};
+ghost use Rattle.std.specs.Prelude.{◌≡◌, [], ◌*◌, length};
 ghost use Rattle.wire.specs.Table.{checked};
+ghost use Rattle.wire.specs.Shown.{shown_by};
 ghost use Rattle.wire.specs.Words.{not_elements};
 ghost use Rattle.keys.specs.Keys.{seen_key};
 ghost use Rattle.keys.specs.Claim.{keys_before};
 ghost use Rattle.writer.specs.Writer.{key_rules};
-ghost use Rattle.writer.specs.Inner.{shown_check, Top, Told, FirstTwice};
+ghost use Rattle.writer.specs.Inner.{Top, Told, FirstTwice};
 
-use crate::check::PartsCheck;
 use keys::claim::{Claim, check_claim, key_at};
-use wire::refusal::Refusal;
-use wire::word::{WordOrder, is_element, word_order};
+use std::cmp::Ordering;
+use wire::refusal::{Refusal, Refused};
+use wire::word::{is_element, word_order};
 
 // How a key stands to those before it.
 #[derive(Clone, Copy)]
@@ -22,35 +23,22 @@ enum Standing {
     Repeated,
 }
 
-fn is_word(key: [u64; 4]) -> bool
-    ensures { result ≡ not (not_elements key) }
+// Whether one of the key's numbers is no element.
+fn not_elements(key: [u64; 4]) -> bool
+    ensures { result ≡ not_elements key }
 {
-    let a = is_element(key[0]);
-    let b = is_element(key[1]);
-    let c = is_element(key[2]);
-    let d = is_element(key[3]);
-    a & b & c & d
+    key.iter().any(|&x| !is_element(x))
 }
 
 // Whether the key is one of the first n, the nearest compared first.
 fn is_seen(keys: &[u64], n: usize, key: [u64; 4]) -> bool
     ensures { result ≡ seen_key (keys_before keys.now n) key }
 {
-    let mut j = n;
-    while 0 < j {
-        j -= 1;
-        match word_order(key_at(keys, j), key) {
-            WordOrder::Same => {
-                return true;
-            }
-            WordOrder::Below => {}
-            WordOrder::Above => {}
-        }
-    }
-    false
+    (0..n).rev().any(|j| key_at(keys, j) == key)
 }
 
 // Key i among those before it, of which the one at `top` is the highest.
+#[tactic(auto, using(keys::proofs::Lent::seen_none, keys::proofs::Lent::one_seen, crate::proofs::Keys::above_all))]
 fn key_standing(keys: &[u64], i: usize, top: usize, key: [u64; 4]) -> Standing
     requires { Top keys.now i top }
     ensures { Told result keys.now i top key }
@@ -59,9 +47,9 @@ fn key_standing(keys: &[u64], i: usize, top: usize, key: [u64; 4]) -> Standing
         return Standing::Highest;
     }
     match word_order(key_at(keys, top), key) {
-        WordOrder::Below => Standing::Highest,
-        WordOrder::Same => Standing::Repeated,
-        WordOrder::Above => {
+        Ordering::Less => Standing::Highest,
+        Ordering::Equal => Standing::Repeated,
+        Ordering::Greater => {
             if is_seen(keys, i, key) {
                 Standing::Repeated
             } else {
@@ -72,53 +60,65 @@ fn key_standing(keys: &[u64], i: usize, top: usize, key: [u64; 4]) -> Standing
 }
 
 // Each key in turn: ELEMENT, then DUPLICATE of an earlier one, which is searched for.
-fn check_keys(keys: &[u64], lengths: &[u64]) -> PartsCheck
+#[tactic(auto, using(crate::proofs::Keys::left_all, crate::proofs::Keys::left_none, crate::proofs::Keys::no_word))]
+fn check_keys(keys: &[u64], lengths: &[u64]) -> Result<(), Refused<usize>>
     requires { length keys.now ≡ 4 * length lengths.now }
-    ensures { shown_check result ≡ checked (key_rules 0 [] keys.now lengths.now) }
+    ensures { shown_by (λ u. u) result ≡ checked (key_rules 0 [] keys.now lengths.now) }
 {
     let mut top = 0;
-    let mut i = 0;
-    while i < lengths.len() {
+    for i in 0..lengths.len() {
         let key = key_at(keys, i);
-        if !is_word(key) {
-            return PartsCheck::Refused(Refusal::Element, i);
+        if not_elements(key) {
+            return Err(Refused {
+                why: Refusal::Element,
+                at: i,
+            });
         }
         match key_standing(keys, i, top, key) {
             Standing::Repeated => {
-                return PartsCheck::Refused(Refusal::Duplicate, i);
+                return Err(Refused {
+                    why: Refusal::Duplicate,
+                    at: i,
+                });
             }
-            Standing::Highest => {
-                top = i;
-            }
+            Standing::Highest => top = i,
             Standing::Between => {}
         }
-        i += 1;
     }
-    PartsCheck::Fit
+    Ok(())
 }
 
 // The same where it is known which key is the first to be an earlier one again.
-fn check_keys_known(keys: &[u64], lengths: &[u64], twice: usize) -> PartsCheck
+#[tactic(auto, using(crate::proofs::Keys::left_all, crate::proofs::Keys::left_none, crate::proofs::Keys::no_word))]
+fn check_keys_known(keys: &[u64], lengths: &[u64], twice: usize) -> Result<(), Refused<usize>>
     requires { (length keys.now ≡ 4 * length lengths.now) × FirstTwice keys.now (length lengths.now) twice }
-    ensures { shown_check result ≡ checked (key_rules 0 [] keys.now lengths.now) }
+    ensures { shown_by (λ u. u) result ≡ checked (key_rules 0 [] keys.now lengths.now) }
 {
-    let mut i = 0;
-    while i < lengths.len() {
-        if !is_word(key_at(keys, i)) {
-            return PartsCheck::Refused(Refusal::Element, i);
+    for i in 0..lengths.len() {
+        if not_elements(key_at(keys, i)) {
+            return Err(Refused {
+                why: Refusal::Element,
+                at: i,
+            });
         }
         if i == twice {
-            return PartsCheck::Refused(Refusal::Duplicate, i);
+            return Err(Refused {
+                why: Refusal::Duplicate,
+                at: i,
+            });
         }
-        i += 1;
     }
-    PartsCheck::Fit
+    Ok(())
 }
 
 // The same, whatever is claimed of the keys' order.
-pub(crate) fn check_keys_claimed(keys: &[u64], lengths: &[u64], order: &[u64]) -> PartsCheck
+pub(crate) fn check_keys_claimed(
+    keys: &[u64],
+    lengths: &[u64],
+    order: &[u64],
+) -> Result<(), Refused<usize>>
     requires { length keys.now ≡ 4 * length lengths.now }
-    ensures { shown_check result ≡ checked (key_rules 0 [] keys.now lengths.now) }
+    ensures { shown_by (λ u. u) result ≡ checked (key_rules 0 [] keys.now lengths.now) }
 {
     match check_claim(keys, order) {
         Claim::Wrong => check_keys(keys, lengths),

@@ -5,5 +5,6 @@ mod check;
 pub mod file;
 mod group;
 mod key;
+pub mod parts;
 mod section;
 mod size;

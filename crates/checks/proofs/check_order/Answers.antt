@@ -1,36 +1,21 @@
--- `checks::check_order` meets its contract. The invariant: the pass accepts the first i nodes, and hands on the class of the last.
+-- `checks::check_order` meets its contract: the class of the last node is not answered.
 -- Assumes nothing.
-use mathlib.Core.Path.{ap}
-use Prim.Native.Nat.{ℕ}
-use native.Mathlib.Omega.{arith}
-use Rattle.wire.specs.Table.{Outcome, accepted, ◌>>=◌}
-use Rattle.rows.proofs.Pass.{passing_none, passing_ends, passing_stops, passing_on}
+use Rattle.std.proofs.Common.{refl, rules}
+use Rattle.std.proofs.lemmas.Result.{err_from_is_err_and}
+use Rattle.wire.proofs.Answers.{answer_stops, answer_goes_on}
 use Rattle.checks.specs.Checks.{order_outcome}
-use Rattle.checks.specs.Shown.{shown_order}
+use Rattle.checks.proofs.CheckLaws.{order_law, order_judged, order_passed}
 use Rattle.checks.proofs.check_order.Goals as goal
 
--- the class of the last node is not answered
-abbrev holds : Outcome ℕ → Outcome (Unit {0})
-holds o = o >>= (λ _. accepted tt)
-
-pub loop-i-init : goal.loop-i-init
-unfolding order_outcome ◌>>=◌
-loop-i-init c =
-    passing_none _ _ 0 _
-
-pub returns-in-Refused : goal.returns-in-Refused
-unfolding order_outcome ◌>>=◌
-returns-in-Refused c =
-    let l = c.loop-i in
-    ap holds (passing_stops _ _ 0 _ l.i l.before l.invariant (omega arith) _ c.order_at.ensures _ _ (ap shown_order c.in-Refused.is))
-
-pub loop-i-preserved : goal.loop-i-preserved
-unfolding order_outcome ◌>>=◌
-loop-i-preserved c =
-    let l = c.loop-i in
-    passing_on _ _ 0 _ l.i l.before l.invariant (omega arith) _ c.order_at.ensures _ (ap shown_order c.in-Class.is)
+pub returns-in_err-each_node : goal.returns-in_err-each_node
+unfolding order_outcome
+returns-in_err-each_node c =
+    let said = order_passed _ _ _ (c.each_node.ensures order_law (λ i before e r read k. order_judged i before e r (search rules))) in
+    let p = err_from_is_err_and c.from_residual.result c.from_residual.ensures.1 in
+    rw (p.1, p.2) (answer_stops _ _ _ _ _ said _ c.in_err-each_node.was)
 
 pub returns : goal.returns
-unfolding order_outcome ◌>>=◌
+unfolding order_outcome
 returns c =
-    ap holds (passing_ends _ _ 0 _ c.loop-i.i c.loop-i.before c.loop-i.invariant (omega arith))
+    let said = order_passed _ _ _ (c.each_node.ensures order_law (λ i before e r read k. order_judged i before e r (search rules))) in
+    answer_goes_on _ _ _ _ _ said _ _ c.in_ok-each_node.was refl

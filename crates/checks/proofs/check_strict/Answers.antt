@@ -1,30 +1,9 @@
--- `checks::check_strict` meets its contract. The invariant: the pass accepts the first i nodes.
+-- `checks::check_strict` meets its contract.
 -- Assumes nothing.
-use mathlib.Core.Path.{ap}
-use native.Mathlib.Omega.{arith}
-use Rattle.rows.proofs.Pass.{passing_none, passing_ends, passing_stops, passing_on}
-use Rattle.checks.specs.Checks.{strict_outcome}
-use Rattle.checks.specs.Shown.{shown_check}
+use Rattle.std.proofs.Common.{rules}
+use Rattle.checks.specs.Checks.{judge_strict, strict_outcome}
 use Rattle.checks.proofs.check_strict.Goals as goal
-
-pub loop-i-init : goal.loop-i-init
-unfolding strict_outcome
-loop-i-init c =
-    passing_none _ _ tt _
-
-pub returns-in-Refused : goal.returns-in-Refused
-unfolding strict_outcome
-returns-in-Refused c =
-    let l = c.loop-i in
-    passing_stops _ _ tt _ l.i tt l.invariant (omega arith) _ c.strict_at.ensures _ _ (ap shown_check c.in-Refused.is)
-
-pub loop-i-preserved : goal.loop-i-preserved
-unfolding strict_outcome
-loop-i-preserved c =
-    let l = c.loop-i in
-    passing_on _ _ tt _ l.i tt l.invariant (omega arith) _ c.strict_at.ensures tt (ap shown_check c.in-Holds.is)
 
 pub returns : goal.returns
 unfolding strict_outcome
-returns c =
-    passing_ends _ _ tt _ c.loop-i.i tt c.loop-i.invariant (omega arith)
+returns c = c.each_node.ensures (judge_strict c.args.s.now c.args.layout.node_entry_offset.0) (λ i before e r read k. search rules)

@@ -1,39 +1,24 @@
 -- `info::read_entry` meets its contract: SHORT, or what the word decodes to, placed.
 -- Assumes nothing.
-use mathlib.Core.Path.{◌≡◌, sym, ap, ◌∙◌}
-use mathlib.Core.Bool.{false}
-use native.Mathlib.Omega.{arith}
-use Rattle.wire.specs.Le.{le_at, is_short}
-use Rattle.wire.proofs.Numbers.{all_there, number_whole}
-use Rattle.info.specs.Entry.{decode_outcome}
-use Rattle.info.specs.Shown.{shown_decoded}
-use Rattle.info.proofs.Cases.{entry_short, entry_read, entry_refused}
+use Rattle.std.proofs.Common.{refl, rules}
+use Rattle.std.proofs.lemmas.Result.{err_from_is_err_and}
+use Rattle.wire.proofs.Answers.{answer_stops, answer_goes_on}
+use Rattle.info.proofs.Cases.{entry_stages, decoded_told}
 use Rattle.info.proofs.read_entry.Goals as goal
 
-pub returns-then-is_short : goal.returns-then-is_short
-returns-then-is_short c =
-    let a = c.args in
-    sym (entry_short a.s.now a.at.0 (sym c.is_short.ensures ∙ c.if-is_short.true))
+pub returns-in_err-word : goal.returns-in_err-word
+returns-in_err-word c =
+    let p = err_from_is_err_and c.from_residual.result c.from_residual.ensures.1 in
+    rw (p.1, p.2, entry_stages c.args.s.now c.args.at.0) (answer_stops _ _ _ _ _ c.read_u64.ensures _ c.in_err-word.was)
 
-pub overflow_add-next : goal.overflow_add-next
-overflow_add-next c =
-    let whole : is_short c.args.s.now c.args.at.0 8 ≡ false = sym c.is_short.ensures ∙ c.if-is_short.false in
-    let a = c.args in omega (arith, all_there 8 a.s.now a.at.0 (whole))
+pub returns-in_err-entry : goal.returns-in_err-entry
+returns-in_err-entry c =
+    let p = err_from_is_err_and c.from_residual-in_err-entry.result c.from_residual-in_err-entry.ensures.1 in
+    let said = decoded_told (λ p. p.0) c.args.at _ _ _ _ (λ e e' k. search rules) c.decode_entry.ensures c.map_err.ensures.cases in
+    rw (p.1, p.2, entry_stages c.args.s.now c.args.at.0)
+    (answer_goes_on _ _ _ _ _ c.read_u64.ensures _ _ c.in_ok-word.was (answer_stops _ _ _ _ _ said _ c.in_err-entry.was))
 
-pub returns-in-Entry : goal.returns-in-Entry
-returns-in-Entry c =
-    let whole : is_short c.args.s.now c.args.at.0 8 ≡ false = sym c.is_short.ensures ∙ c.if-is_short.false in
-    let said : decode_outcome 0 (le_at c.args.s.now c.args.at.0 8)
-    ≡ shown_decoded c.decode_entry.result = let a = c.args in
-    sym (c.decode_entry.ensures ∙ ap (decode_outcome 0) (c.u64_at.ensures ∙ number_whole 8 a.s.now a.at.0 (whole))) in
-    let a = c.args in
-    sym (entry_read a.s.now a.at.0 (whole) _ (said ∙ ap shown_decoded c.in-Entry.is))
-
-pub returns-in-Refused : goal.returns-in-Refused
-returns-in-Refused c =
-    let whole : is_short c.args.s.now c.args.at.0 8 ≡ false = sym c.is_short.ensures ∙ c.if-is_short.false in
-    let said : decode_outcome 0 (le_at c.args.s.now c.args.at.0 8)
-    ≡ shown_decoded c.decode_entry.result = let a = c.args in
-    sym (c.decode_entry.ensures ∙ ap (decode_outcome 0) (c.u64_at.ensures ∙ number_whole 8 a.s.now a.at.0 (whole))) in
-    let a = c.args in
-    sym (entry_refused a.s.now a.at.0 (whole) _ _ (said ∙ ap shown_decoded c.in-Refused.is))
+pub returns : goal.returns
+returns c =
+    let said = decoded_told (λ p. p.0) c.args.at _ _ _ _ (λ e e' k. search rules) c.decode_entry.ensures c.map_err.ensures.cases in
+    rw entry_stages (answer_goes_on _ _ _ _ _ c.read_u64.ensures _ _ c.in_ok-word.was (answer_goes_on _ _ _ _ _ said _ _ c.in_ok-entry.was refl))

@@ -1,57 +1,23 @@
 -- `rows::survey_words` meets its contract. The invariant: if nothing is marked so far, the pass goes on over i words from word `from` on, and
 -- over i words from word `from + n` on, each with as many externals more as were counted in its half.
 -- Assumes nothing.
-use mathlib.Core.Path.{◌≡◌, refl}
-use Prim.Native.Nat.{◌/◌, ◌%◌, ◌^◌, ◌<◌, ◌+◌}
-use native.Mathlib.Nat.{add_assoc, add-zero}
+use mathlib.Core.Path.{refl}
+use Prim.Native.Nat.{◌+◌}
+use native.Mathlib.Nat.{add_assoc}
 use native.Mathlib.Numerals.{add-one}
-use native.Mathlib.Omega.{arith}
-use borrow.Author.Rules.{rules}
-use lib.ListN.{get_or}
 use Rattle.rows.specs.Rows.{word_read}
 use Rattle.rows.proofs.Quick.{onward_next}
-use Rattle.rows.proofs.Pairs.{or_clear, pair_parts, top_few, Counted, counted_on}
+use Rattle.rows.proofs.Pairs.{or_clear, pair_parts, pair_counted}
 use Rattle.rows.proofs.survey_words.Goals as goal
-
-pub loop-i-init : goal.loop-i-init
-loop-i-init c =
-    (omega arith, (omega arith, (omega arith, λ wides highs. ((λ before begun. rw (add-zero, add-zero) begun), (λ before begun. rw (add-zero, add-zero) begun)))))
-
-pub overflow_add-externals : goal.overflow_add-externals
-overflow_add-externals c =
-    let parts : let pair = c.side_by_side-pair.result in
-    let l = c.loop-i in
-    let a = c.args in
-    (pair < 2 ^ 64) × ((pair % 2 ^ 32 ≡ get_or a.words.now (a.from + l.i) 0 / 2 ^ 32) × (pair / 2 ^ 32 ≡ get_or a.words.now (a.from + a.n + l.i) 0 / 2 ^ 32)) = let l = c.loop-i in
-    let a = c.args in
-    pair_parts _ _ _ (c.type_inv.words (a.from + l.i)).fits (c.type_inv.words (a.from + a.n + l.i)).fits c.side_by_side-pair.ensures in
-    let counted : let pair = c.side_by_side-pair.result in
-    let l = c.loop-i in
-    Counted l.externals l.i (pair % 2 ^ 32 / 2 ^ 31) (pair / 2 ^ 32 / 2 ^ 31) c.top_bits-externals.result = let l = c.loop-i in
-    counted_on l.externals l.i _ _ _ _ l.invariant.1.0 l.invariant.1.1.0 c.loop-i-test.true c.requires.0
-    (top_few c.side_by_side-pair.result (parts).0)
-    c.top_bits-externals.ensures in
-    search (rules, counted.fits)
 
 pub loop-i-preserved : goal.loop-i-preserved
 loop-i-preserved c =
-    let parts : let pair = c.side_by_side-pair.result in
-    let l = c.loop-i in
-    let a = c.args in
-    (pair < 2 ^ 64) × ((pair % 2 ^ 32 ≡ get_or a.words.now (a.from + l.i) 0 / 2 ^ 32) × (pair / 2 ^ 32 ≡ get_or a.words.now (a.from + a.n + l.i) 0 / 2 ^ 32)) = let l = c.loop-i in
-    let a = c.args in
-    pair_parts _ _ _ (c.type_inv.words (a.from + l.i)).fits (c.type_inv.words (a.from + a.n + l.i)).fits c.side_by_side-pair.ensures in
-    let counted : let pair = c.side_by_side-pair.result in
-    let l = c.loop-i in
-    Counted l.externals l.i (pair % 2 ^ 32 / 2 ^ 31) (pair / 2 ^ 32 / 2 ^ 31) c.top_bits-externals.result = let l = c.loop-i in
-    counted_on l.externals l.i _ _ _ _ l.invariant.1.0 l.invariant.1.1.0 c.loop-i-test.true c.requires.0
-    (top_few c.side_by_side-pair.result (parts).0)
-    c.top_bits-externals.ensures in
     let l = c.loop-i in
     let a = c.args in
     let read = word_read a.words.now in
-    let p = parts in
-    let k = counted in (
+    let p = pair_parts _ _ _ (c.type_inv.words (a.from + l.i)).fits (c.type_inv.words (a.from + a.n + l.i)).fits c.side_by_side-pair.ensures in
+    let k = pair_counted l.externals l.i _ _ _ _ _ (c.type_inv.words (a.from + l.i)).fits (c.type_inv.words (a.from + a.n + l.i)).fits c.side_by_side-pair.ensures
+    l.invariant.1.0 l.invariant.1.1.0 c.loop-i-test.true c.requires.0 c.top_bits-externals.ensures in (
       rw add-one c.loop-i-test.true,
       (
         k.lower_few,
@@ -70,12 +36,3 @@ loop-i-preserved c =
         ),
       ),
     )
-
--- both halves, one after the other
-pub returns-then-highs-eq0-2 : goal.returns-then-highs-eq0-2
-returns-then-highs-eq0-2 c =
-    let l = c.loop-i in
-    let a = c.args in
-    let end : l.i ≡ a.n = omega arith in
-    let both = rw end at (l.invariant.1.1.1 (c.if-wides-eq0.true, c.if-wides-eq0-2.true) (c.if-highs-eq0.true, c.if-highs-eq0-2.true)) in
-    λ before begun. rw (← add_assoc before (l.externals % 2 ^ 32) (l.externals / 2 ^ 32)) (both.1 (before + l.externals % 2 ^ 32) (both.0 before begun))

@@ -1,25 +1,28 @@
 -- `whole::read_whole` meets its contract: the scan's refusal, or the map of what it accepted.
 -- Assumes nothing.
-use mathlib.Core.Path.{sym, ap, ◌∙◌}
-use Rattle.layout.specs.Shown.{shown_scan}
-use Rattle.whole.specs.Whole.{whole_outcome}
-use Rattle.whole.proofs.Stages.{scan_stops, scan_goes_on}
-use Rattle.whole.proofs.Accepted.{scanned_long}
-use Rattle.whole.proofs.WholeLaws.{refused_keys, accepted_keys}
+use mathlib.Core.Path.{sym}
+use native.Mathlib.Omega.{arith}
+use borrow.Author.Rules.{rules}
+use Rattle.wire.specs.Table.{◌>>=◌}
+use Rattle.whole.specs.Whole.{map_outcome, whole_outcome}
+use Rattle.whole.proofs.Accepted.{scanned_long, walk_inside, walk_long_lem}
 use Rattle.whole.proofs.read_whole.Goals as goal
 
-pub read_map-requires : goal.read_map-requires
-read_map-requires c =
-    let a = c.args in
-    scanned_long a.f a.s.now a.allow a.bound _ (sym (ap shown_scan (sym c.in-Accepted.is) ∙ c.scan_layout.ensures.result_value))
+pub returns-in_err-scanned-clause-result_value : goal.returns-in_err-scanned-clause-result_value
+unfolding whole_outcome ◌>>=◌
+returns-in_err-scanned-clause-result_value c = search rules
 
-pub returns-in-Refused : goal.returns-in-Refused
-unfolding whole_outcome
-returns-in-Refused c =
-    let a = c.args in
-    record { result_value = scan_stops _ _ _ c.scan_layout.ensures.result_value _ _ c.in-Refused.is; keys_after = refused_keys a.f a.allow a.bound a.s.now a.keys.now _ _ (ap shown_scan (sym c.in-Refused.is) ∙ c.scan_layout.ensures.result_value) }
+pub returns-in_err-map-clause-result_value : goal.returns-in_err-map-clause-result_value
+unfolding whole_outcome map_outcome ◌>>=◌
+returns-in_err-map-clause-result_value c = search rules
 
-pub returns-in-Accepted : goal.returns-in-Accepted
-unfolding whole_outcome
-returns-in-Accepted c =
-    let a = c.args in record { result_value = scan_goes_on _ _ _ c.scan_layout.ensures.result_value _ _ _ c.in-Accepted.is c.read_map.ensures.result_value; keys_after = c.read_map.ensures.keys_after ∙ accepted_keys a.f a.allow a.bound a.s.now a.keys.now _ (ap shown_scan (sym c.in-Accepted.is) ∙ c.scan_layout.ensures.result_value) }
+-- an entry of the map has at least 33 bytes, so the sum fits
+pub overflow_add-result : goal.overflow_add-result
+overflow_add-result c =
+    let scanned = sym c.in_ok-scanned.ensures.result_value in
+    let walked = sym c.in_ok-map.ensures.result_value in
+    omega (arith, scanned_long _ _ _ _ _ scanned, walk_long_lem _ _ _ _ walked, walk_inside _ _ _ _ walked)
+
+pub returns-clause-result_value : goal.returns-clause-result_value
+unfolding whole_outcome map_outcome ◌>>=◌
+returns-clause-result_value c = search rules

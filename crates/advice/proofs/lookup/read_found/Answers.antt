@@ -1,29 +1,27 @@
 -- `advice::lookup::read_found` meets its contract: the length and the values, then the elements.
 -- Assumes nothing.
-use mathlib.Core.Path.{sym, ap, ◌∙◌}
-use Rattle.advice.specs.Inner.{shown_values, shown_elements}
+use mathlib.Core.Path.{refl}
+use Rattle.std.proofs.lemmas.Result.{err_from_is_err_and}
+use Rattle.wire.proofs.Answers.{answer_stops, answer_goes_on}
 use Rattle.advice.proofs.Entries.{values_inside}
-use Rattle.advice.proofs.Halving.{found_no_values, found_no_element, found_whole}
+use Rattle.advice.proofs.Halving.{found_values_split}
 use Rattle.advice.proofs.lookup.read_found.Goals as goal
 
+pub returns-in_err-values : goal.returns-in_err-values
+returns-in_err-values c =
+    let p = err_from_is_err_and c.from_residual.result c.from_residual.ensures.1 in
+    rw (p.1, p.2, found_values_split c.args.s.now c.args.at.0) (answer_stops _ _ _ _ _ c.read_values.ensures _ c.in_err-values.was)
+
 pub check_elements-requires : goal.check_elements-requires
-check_elements-requires c =
-    let a = c.args in
-    values_inside a.s.now _ _ _ (ap shown_values (sym c.in-Whole.is) ∙ c.read_values.ensures)
+check_elements-requires c = values_inside c.args.s.now _ _ _ c.in_ok-values.ensures
 
-pub returns-in-Refused : goal.returns-in-Refused
-returns-in-Refused c =
-    let a = c.args in
-    found_no_values a.s.now a.at.0 a.compared _ _ (ap shown_values (sym c.in-Refused.is) ∙ c.read_values.ensures)
+pub returns-in_err-check_elements : goal.returns-in_err-check_elements
+returns-in_err-check_elements c =
+    let p = err_from_is_err_and c.from_residual-in_err-check_elements.result c.from_residual-in_err-check_elements.ensures.1 in
+    rw (p.1, p.2, found_values_split c.args.s.now c.args.at.0)
+    (answer_goes_on _ _ _ _ _ c.read_values.ensures _ _ c.in_ok-values.was (answer_stops _ _ _ _ _ c.check_elements.ensures _ c.in_err-check_elements.was))
 
-pub returns-in-Refused-check_elements : goal.returns-in-Refused-check_elements
-returns-in-Refused-check_elements c =
-    let a = c.args in
-    found_no_element a.s.now a.at.0 a.compared _ _ (ap shown_values (sym c.in-Whole.is) ∙ c.read_values.ensures)
-    _ _ (ap shown_elements (sym c.in-Refused-check_elements.is) ∙ c.check_elements.ensures)
-
-pub returns-in-All : goal.returns-in-All
-returns-in-All c =
-    let a = c.args in
-    found_whole a.s.now a.at.0 a.compared _ _ (ap shown_values (sym c.in-Whole.is) ∙ c.read_values.ensures)
-    (ap shown_elements (sym c.in-All.is) ∙ c.check_elements.ensures)
+pub returns : goal.returns
+returns c =
+    rw (found_values_split c.args.s.now c.args.at.0)
+    (answer_goes_on _ _ _ _ _ c.read_values.ensures _ _ c.in_ok-values.was (answer_goes_on _ _ _ _ _ c.check_elements.ensures _ _ c.in_ok-check_elements.was refl))

@@ -1,27 +1,23 @@
 -- `advice::table::key_at` meets its contract: INDEX, or what is read where the table says.
 -- Assumes nothing.
-use mathlib.Core.Path.{sym, ap, ◌∙◌}
+use mathlib.Core.Path.{refl, sym}
 use native.Mathlib.Omega.{arith}
-use Rattle.wire.specs.Shown.{shown_check}
-use Rattle.wire.specs.declared.word.WordCheck.{WordCheck}
-use Rattle.advice.specs.Table.{key_of}
-use Rattle.advice.proofs.TableStages.{refused_key, key_index, key_word, key_refused}
+use Rattle.std.proofs.lemmas.Result.{err_from_is_err_and}
+use Rattle.wire.proofs.Answers.{answer_stops, answer_goes_on}
+use Rattle.advice.proofs.TableStages.{key_index, key_split}
 use Rattle.advice.proofs.table.key_at.Goals as goal
 
 pub returns-then-keys-index : goal.returns-then-keys-index
 returns-then-keys-index c =
-    let both = let a = c.args in
-    refused_key _ _ _ _ c.no_key.ensures (key_index a.s.now a.keys.now a.index (omega arith)) in record { result_value = both.0; word_value = both.1 }
+    let a = c.args in sym (key_index a.s.now a.keys.now a.index (omega arith))
 
-pub returns-in-Whole : goal.returns-in-Whole
-returns-in-Whole c =
+pub returns-in_err-key : goal.returns-in_err-key
+returns-in_err-key c =
     let a = c.args in
-    let e = key_word a.s.now a.keys.now a.index (omega arith) _ (sym c.read_word-read.ensures.result_value ∙ ap (λ (w : WordCheck). shown_check w c.read_word-read.result.word) c.in-Whole.is) in
-    record { result_value = sym e; word_value = sym (ap key_of e) }
+    let p = err_from_is_err_and c.from_residual.result c.from_residual.ensures.1 in
+    rw (p.1, p.2, key_split a.s.now a.keys.now a.index (omega arith)) (answer_stops _ _ _ _ _ c.read_word.ensures _ c.in_err-key.was)
 
-pub returns-in-Refused : goal.returns-in-Refused
-returns-in-Refused c =
-    let both = let a = c.args in
-    refused_key _ _ _ _ c.no_key-in-Refused.ensures
-    (key_refused a.s.now a.keys.now a.index (omega arith) _ _
-    (sym c.read_word-read.ensures.result_value ∙ ap (λ (w : WordCheck). shown_check w c.read_word-read.result.word) c.in-Refused.is)) in record { result_value = both.0; word_value = both.1 }
+pub returns : goal.returns
+returns c =
+    let a = c.args in
+    rw (key_split a.s.now a.keys.now a.index (omega arith)) (answer_goes_on _ _ _ _ _ c.read_word.ensures _ _ c.in_ok-key.was refl)

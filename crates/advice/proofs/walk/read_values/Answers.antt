@@ -1,16 +1,14 @@
 -- `advice::walk::read_values` meets its contract: a count, then what is asked of it.
 -- Assumes nothing.
-use mathlib.Core.Path.{sym, ap, ◌∙◌}
-use Rattle.wire.specs.Shown.{shown_count}
-use Rattle.advice.proofs.Entries.{values_none, values_read}
+use Rattle.std.proofs.lemmas.Result.{err_from_is_err_and}
+use Rattle.wire.proofs.Answers.{answer_stops, answer_goes_on}
+use Rattle.advice.proofs.Entries.{values_split}
 use Rattle.advice.proofs.walk.read_values.Goals as goal
 
-pub returns-in-Refused : goal.returns-in-Refused
-returns-in-Refused c =
-    let a = c.args in
-    values_none a.s.now a.at.0 _ _ (ap shown_count (sym c.in-Refused.is) ∙ c.read_count.ensures)
+pub returns-in_err-length : goal.returns-in_err-length
+returns-in_err-length c =
+    let p = err_from_is_err_and c.from_residual.result c.from_residual.ensures.1 in
+    rw (p.1, p.2, values_split c.args.s.now c.args.at.0) (answer_stops _ _ _ _ _ c.read_count.ensures _ c.in_err-length.was)
 
-pub returns-in-Whole : goal.returns-in-Whole
-returns-in-Whole c =
-    let a = c.args in
-    c.values_from.ensures ∙ values_read a.s.now a.at.0 _ _ (ap shown_count (sym c.in-Whole.is) ∙ c.read_count.ensures)
+pub returns : goal.returns
+returns c = rw (values_split c.args.s.now c.args.at.0) (answer_goes_on _ _ _ _ _ c.read_count.ensures _ _ c.in_ok-length.was c.values_from.ensures)

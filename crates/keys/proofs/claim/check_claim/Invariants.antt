@@ -1,11 +1,9 @@
--- `keys::claim::check_claim` meets its contract. The invariant: what is known of the first j numbers. Assumes nothing.
-use Prim.Native.Nat.{◌-◌, ◌≤◌}
-use lib.ListN.{length}
-use Rattle.keys.proofs.Claims.{Known}
+-- The invariant: a is the number before, and what is known up to it. Assumes nothing.
+use mathlib.Core.Path.{◌≡◌}
+use Prim.Native.Nat.{suc}
+use lib.ListN.{get_or}
+use Rattle.keys.proofs.Claims.{SoFar}
 use Rattle.keys.proofs.claim.check_claim.Given as goal
 
-abbrev pub invariant-loop-j : goal.invariant-loop-j
-invariant-loop-j l = (1 ≤ l.j) × (l.j ≤ length l.order) × Known l.keys l.order l.j l.best
-
-abbrev pub decreases-loop-j : goal.decreases-loop-j
-decreases-loop-j l = length l.order - l.j
+abbrev pub invariant-loop-b : goal.invariant-loop-b
+invariant-loop-b l = (l.a ≡ get_or l.order l.b-index 0) × SoFar l.keys l.order (suc l.b-index) l.best

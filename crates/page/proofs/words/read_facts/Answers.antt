@@ -1,55 +1,37 @@
--- `page::words::read_facts` meets its contract: each `return` is reached by the tests before it, as in the definition.
--- Assumes nothing.
-use mathlib.Core.Path.{◌≡◌, sym, ap, ◌∙◌}
-use Rattle.wire.proofs.Ladder.{ladder}
+-- Each `return` is reached by the tests before it, as in the definition.
+use Rattle.std.proofs.Common.{◌≡◌, Some, None, Err, arith}
+use Rattle.std.proofs.lemmas.Grind.{common_steps}
 use Rattle.text.specs.Digits.{number_of_word}
-use Rattle.page.specs.Words.{words_check, maximum_check}
-use Rattle.page.specs.declared.words.WordsCheck.TheVariants.{Wrong}
-use Rattle.page.proofs.WordLaws.{wrong_facts, taken_facts}
+use Rattle.wire.proofs.Ladder.{ladder}
+use Rattle.page.specs.Words.{words_check, facts_of}
+use Rattle.page.specs.declared.words.WrongWords.TheVariants.{Maximum}
 use Rattle.page.proofs.words.read_facts.Goals as goal
 
 pub returns-then-hex_wrong : goal.returns-then-hex_wrong
 unfolding words_check
-returns-then-hex_wrong c =
-    let both = let a = c.args in
-    wrong_facts a.magic.now a.version.now a.hashless.now a.reserved.now a.most.now 1 _ c.wrong_word.ensures (search ladder depth 12) in record { answer_value = both.0; facts_value = both.1 }
+returns-then-hex_wrong c = search ladder depth 12
 
 pub returns-then-hex_wrong-2 : goal.returns-then-hex_wrong-2
 unfolding words_check
-returns-then-hex_wrong-2 c =
-    let both = let a = c.args in
-    wrong_facts a.magic.now a.version.now a.hashless.now a.reserved.now a.most.now 2 _ c.wrong_word-then-hex_wrong-2.ensures (search ladder depth 12) in record { answer_value = both.0; facts_value = both.1 }
+returns-then-hex_wrong-2 c = search ladder depth 12
 
 pub returns-then-hex_wrong-3 : goal.returns-then-hex_wrong-3
 unfolding words_check
-returns-then-hex_wrong-3 c =
-    let both = let a = c.args in
-    wrong_facts a.magic.now a.version.now a.hashless.now a.reserved.now a.most.now 3 _ c.wrong_word-then-hex_wrong-3.ensures (search ladder depth 12) in record { answer_value = both.0; facts_value = both.1 }
+returns-then-hex_wrong-3 c = search ladder depth 12
 
 pub returns-then-hex_wrong-4 : goal.returns-then-hex_wrong-4
 unfolding words_check
-returns-then-hex_wrong-4 c =
-    let both = let a = c.args in
-    wrong_facts a.magic.now a.version.now a.hashless.now a.reserved.now a.most.now 4 _ c.wrong_word-then-hex_wrong-4.ensures (search ladder depth 12) in record { answer_value = both.0; facts_value = both.1 }
+returns-then-hex_wrong-4 c = search ladder depth 12
 
-pub returns-in-Wrong : goal.returns-in-Wrong
+pub returns-in_err-max_nodes : goal.returns-in_err-max_nodes
 unfolding words_check
-returns-in-Wrong c =
-    let both = let a = c.args in
-    let most : Wrong 5 ≡ maximum_check (number_of_word a.most.now) = ap maximum_check (sym c.in-Wrong.is ∙ c.number_of.ensures) in
-    wrong_facts a.magic.now a.version.now a.hashless.now a.reserved.now a.most.now 5 _ c.wrong_word-in-Wrong.ensures (search ladder depth 12) in record { answer_value = both.0; facts_value = both.1 }
+returns-in_err-max_nodes c =
+    let none : number_of_word c.args.most.now ≡ None = grind (arith, common_steps) in
+    let said : c.from_residual.result ≡ Err Maximum = grind (arith, common_steps) in
+    rw (none, said) (search ladder depth 12)
 
-pub returns-in-Number : goal.returns-in-Number
-returns-in-Number c =
-    let both = let a = c.args in
-    taken_facts a.magic.now a.version.now a.hashless.now a.reserved.now a.most.now _ _ _ _ _ _
-    c.hex_wrong.ensures
-    c.hex_wrong-2.ensures
-    c.hex_wrong-3.ensures
-    c.hex_wrong-4.ensures
-    c.if-hex_wrong.false
-    c.if-hex_wrong-2.false
-    c.if-hex_wrong-3.false
-    c.if-hex_wrong-4.false
-    (sym c.in-Number.is ∙ c.number_of.ensures)
-    c.facts_of.ensures in record { answer_value = both.0; facts_value = both.1 }
+pub returns : goal.returns
+unfolding words_check facts_of
+returns c =
+    let most : number_of_word c.args.most.now ≡ Some c.in_ok-max_nodes.max_nodes = grind (arith, common_steps) in
+    rw (most, c.hex_byte.ensures, c.hex_byte-2.ensures, c.hex_byte-3.ensures, c.hex_byte-4.ensures, c.hex_byte-5.ensures, c.hex_byte-6.ensures, c.hex_byte-7.ensures, c.hex_byte-8.ensures, c.hex_byte-9.ensures) (search ladder depth 12)

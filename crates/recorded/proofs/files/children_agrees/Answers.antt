@@ -1,18 +1,11 @@
--- `recorded::files::children_agrees` meets its contract: what the call says is the row of its number.
--- Assumes nothing.
-use Rattle.recorded.proofs.Rows.{check_told_lem}
-use Rattle.recorded.specs.Calls.{call_row, layout_given}
 use Rattle.vekalumist.specs.Calls.{children_call}
-use Rattle.std.proofs.Common.{◌≡◌, ap}
+use Rattle.recorded.specs.Calls.{call_row, layout_given}
+use Rattle.recorded.proofs.Rows.{check_told_lem}
 use Rattle.recorded.proofs.files.children_agrees.Goals as goal
 
 pub returns : goal.returns
-unfolding call_row
+unfolding call_row layout_given
 returns c e =
-    let k = c.args in
-    let l = c.layout_given-given in
-    let s = k.s.now in
-    let a = k.a.now in
-    let o = children_call s (layout_given a) in
-    let same : children_call s l.result ≡ o = ap (children_call s) l.ensures in
-    check_told_lem o same c.veka_raw_children-r.ensures.value c.veka_raw_children-r.ensures.place_after (c.is_told_check.ensures e)
+    let k = c.args.case.now in
+    let r = c.veka_raw_children-r.ensures in
+    check_told_lem (children_call k.file.now (layout_given k.given.now)) _ (rw c.numbers.ensures) r.value r.place_after (c.is_told.ensures e)

@@ -1,31 +1,16 @@
--- `recorded::reading::numbers_of` meets its contract: the numbers before `at` stand in `out`.
--- Assumes nothing.
-use Rattle.std.proofs.Common.{sym, arith, length-set, length-take-le, rules}
-use Rattle.recorded.proofs.Texts.{stored, stored_more, stored_all}
+use Rattle.std.proofs.Common.{Ok, rules, arith}
+use Rattle.std.proofs.lemmas.Grind.{common_steps}
+use Rattle.recorded.proofs.Texts.{none_stored, one_stored, all_stored}
 use Rattle.recorded.proofs.reading.numbers_of.Goals as goal
 
-pub loop-at-init : goal.loop-at-init
-loop-at-init c =
-    (stored _ _, search rules)
+pub loop-rest-init : goal.loop-rest-init
+loop-rest-init g c =
+    none_stored _ _ _
 
-pub returns-then-out-count : goal.returns-then-out-count
-returns-then-out-count c =
-    record { prefix_len = search rules; out_after = λ e. cc }
+pub loop-rest-preserved : goal.loop-rest-preserved
+loop-rest-preserved g c =
+    one_stored (λ n x. g.T.TryFrom.try_from_gives n (Ok x)) _ _ _ _ c.loop-rest.invariant _ _ _ c.in_ok-value.ensures (search rules) (grind (arith, common_steps))
 
-pub loop-at-smaller : goal.loop-at-smaller
-loop-at-smaller c =
-    let n = c.number_at-one.ensures c.if-one.true in
-    omega (arith, n.later, n.within)
-
-pub loop-at-preserved : goal.loop-at-preserved
-loop-at-preserved c =
-    let h = c.loop-at in
-    (stored_more _ _ _ _ h.invariant.0 _ _ (c.number_at-one.ensures c.if-one.true) c.if-out-count.false, rw length-set h.invariant.1)
-
-pub returns-else-one : goal.returns-else-one
-returns-else-one c =
-    record { prefix_len = search rules; out_after = λ e. cc }
-
-pub returns : goal.returns
-returns c =
-    record { prefix_len = (c.loop-at.invariant.0.room, sym (length-take-le _ _ c.loop-at.invariant.0.room)); out_after = λ e. stored_all _ _ _ _ c.loop-at.invariant.0 c.loop-at-test.false }
+pub returns-clause-out_after : goal.returns-clause-out_after
+returns-clause-out_after g c =
+    all_stored (λ n x. g.T.TryFrom.try_from_gives n (Ok x)) _ _ _ _ c.loop-rest.invariant (grind (arith, common_steps))

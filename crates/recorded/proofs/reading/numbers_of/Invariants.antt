@@ -1,11 +1,10 @@
--- `recorded::reading::numbers_of` meets its contract: the numbers before `at` stand in `out`.
--- Assumes nothing.
-use Rattle.std.proofs.Common.{◌≡◌, ◌-◌, length}
+-- The first numbers are stored, and those of the rest are left.
+use Rattle.std.proofs.Common.{length, Ok}
 use Rattle.recorded.proofs.Texts.{Stored}
 use Rattle.recorded.proofs.reading.numbers_of.Given as goal
 
-abbrev pub invariant-loop-at : goal.invariant-loop-at
-invariant-loop-at l = Stored l.l l.out l.count l.at × (length l.out ≡ length l.initial.out)
+abbrev pub invariant-loop-rest : goal.invariant-loop-rest
+invariant-loop-rest g l = Stored (λ n x. g.T.TryFrom.try_from_gives n (Ok x)) l.l l.out l.count l.rest
 
-abbrev pub decreases-loop-at : goal.decreases-loop-at
-decreases-loop-at l = length l.l - l.at
+abbrev pub decreases-loop-rest : goal.decreases-loop-rest
+decreases-loop-rest g l = length l.rest

@@ -1,122 +1,47 @@
--- `recorded::tally::tally` meets its contract: what agreed so far and what is left of the text give no more than the whole.
--- Assumes nothing.
-use Rattle.std.proofs.Common.{sym, arith, length-take-le, rules}
-use Rattle.recorded.proofs.Lines.{Inside, inside, tallied, tallied_file, tallied_case}
+-- After each line, what agreed so far and what is left of the text give no more than the whole.
+use Rattle.std.proofs.Common.{◌<◌, [], ◌∷◌, length, ap, ◌∙◌, arith, rules}
+use Rattle.std.proofs.lemmas.Bool.Decides.{Decides-eqb, nat_tests}
+use Rattle.std.proofs.lemmas.List.Elements.{same_from_all_zip}
+use Rattle.std.proofs.lemmas.Option.{MatchOption-at_some, MatchOption-at_none}
+use Rattle.std.proofs.lemmas.Slice.Eq.{strip_prefix_is}
+use Rattle.recorded.specs.Text.{numbers_in}
+use Rattle.recorded.proofs.Lines.{file_line, case_line, file_tallied, case_tallied}
+use Rattle.recorded.proofs.Texts.{past_shorter}
 use Rattle.recorded.proofs.tally.tally.Goals as goal
 
-pub loop-at-init : goal.loop-at-init
-loop-at-init c =
-    (tallied _ _, omega arith, omega arith, search rules)
+pub loop-rest-smaller-in-Some : goal.loop-rest-smaller-in-Some
+loop-rest-smaller-in-Some c =
+    let some : 0 < length c.loop-rest.rest.now = grind (arith, nat_tests) in
+    rw c.cut.ensures.back (past_shorter 10 c.loop-rest.rest.now some)
 
-pub overflow_add-end : goal.overflow_add-end
-overflow_add-end c =
-    let inside_text : Inside c.args.text.now c.loop-at.at c.cut-found.result.end c.cut-found.result.rest = inside c.args.text.now c.loop-at.at c.loop-at-test.true c.cut-found.ensures in
-    omega (arith, inside_text)
+pub loop-rest-preserved-in-Some : goal.loop-rest-preserved-in-Some
+loop-rest-preserved-in-Some c =
+    let rest = c.loop-rest.rest.now in
+    let h = c.loop-rest.invariant in
+    let some : 0 < length rest = grind (arith, nat_tests) in
+    let f = file_line c.cut.result.0.now c.in-Some.numbers.now (MatchOption-at_some _ _ _ c.in-Some.is (strip_prefix_is Decides-eqb c.cut.result.0.now (61 ∷ []) _ c.strip_prefix.ensures.cases)) in
+    let bytes = same_from_all_zip _ _ _ c.in-Some-numbers_of.ensures.out_after (λ n x p. p.1) in
+    let shorter = past_shorter 10 rest some in
+    record {
+      tallied = file_tallied _ _ rest _ _ _ _ h.tallied some c.cut.ensures.front c.cut.ensures.back f.0 _ _ c.in-Some-numbers_of.ensures.prefix_len.0 (bytes ∙ ap numbers_in f.1);
+      agreed = rw c.cut.ensures.back (omega arith);
+      lines = rw c.cut.ensures.back (omega arith);
+    }
 
-pub overflow_add-at : goal.overflow_add-at
-overflow_add-at c =
-    let inside_text : Inside c.args.text.now c.loop-at.at c.cut-found.result.end c.cut-found.result.rest = inside c.args.text.now c.loop-at.at c.loop-at-test.true c.cut-found.ensures in
-    omega (arith, inside_text)
+pub loop-rest-smaller : goal.loop-rest-smaller
+loop-rest-smaller c =
+    let some : 0 < length c.loop-rest.rest.now = grind (arith, nat_tests) in
+    rw c.cut.ensures.back (past_shorter 10 c.loop-rest.rest.now some)
 
-pub overflow_add-line : goal.overflow_add-line
-overflow_add-line c =
-    let inside_text : Inside c.args.text.now c.loop-at.at c.cut-found.result.end c.cut-found.result.rest = inside c.args.text.now c.loop-at.at c.loop-at-test.true c.cut-found.ensures in
-    omega (arith, inside_text)
-
-pub slice_bounds-is_file-count : goal.slice_bounds-is_file-count
-slice_bounds-is_file-count c =
-    let inside_text : Inside c.args.text.now c.loop-at.at c.cut-found.result.end c.cut-found.result.rest = inside c.args.text.now c.loop-at.at c.loop-at-test.true c.cut-found.ensures in
-    omega (arith, inside_text)
-
-pub slice_bounds-is_file-start : goal.slice_bounds-is_file-start
-slice_bounds-is_file-start c =
-    let inside_text : Inside c.args.text.now c.loop-at.at c.cut-found.result.end c.cut-found.result.rest = inside c.args.text.now c.loop-at.at c.loop-at-test.true c.cut-found.ensures in
-    omega (arith, inside_text)
-
-pub slice_bounds-is_file-end : goal.slice_bounds-is_file-end
-slice_bounds-is_file-end c =
-    let inside_text : Inside c.args.text.now c.loop-at.at c.cut-found.result.end c.cut-found.result.rest = inside c.args.text.now c.loop-at.at c.loop-at-test.true c.cut-found.ensures in
-    omega (arith, inside_text)
-
-pub slice_bounds-take_file-count : goal.slice_bounds-take_file-count
-slice_bounds-take_file-count c =
-    let inside_text : Inside c.args.text.now c.loop-at.at c.cut-found.result.end c.cut-found.result.rest = inside c.args.text.now c.loop-at.at c.loop-at-test.true c.cut-found.ensures in
-    omega (arith, inside_text)
-
-pub slice_bounds-take_file-start : goal.slice_bounds-take_file-start
-slice_bounds-take_file-start c =
-    let inside_text : Inside c.args.text.now c.loop-at.at c.cut-found.result.end c.cut-found.result.rest = inside c.args.text.now c.loop-at.at c.loop-at-test.true c.cut-found.ensures in
-    omega (arith, inside_text)
-
-pub slice_bounds-take_file-end : goal.slice_bounds-take_file-end
-slice_bounds-take_file-end c =
-    let inside_text : Inside c.args.text.now c.loop-at.at c.cut-found.result.end c.cut-found.result.rest = inside c.args.text.now c.loop-at.at c.loop-at-test.true c.cut-found.ensures in
-    omega (arith, inside_text)
-
-pub slice_bounds-take_file-end-then-is_file : goal.slice_bounds-take_file-end-then-is_file
-slice_bounds-take_file-end-then-is_file c =
-    c.loop-at.invariant.3
-
-pub loop-at-smaller-then-taken : goal.loop-at-smaller-then-taken
-loop-at-smaller-then-taken c =
-    let inside_text : Inside c.args.text.now c.loop-at.at c.cut-found.result.end c.cut-found.result.rest = inside c.args.text.now c.loop-at.at c.loop-at-test.true c.cut-found.ensures in
-    omega (arith, inside_text)
-
-pub loop-at-preserved-then-taken : goal.loop-at-preserved-then-taken
-loop-at-preserved-then-taken c =
-    let inside_text : Inside c.args.text.now c.loop-at.at c.cut-found.result.end c.cut-found.result.rest = inside c.args.text.now c.loop-at.at c.loop-at-test.true c.cut-found.ensures in
-    let h = c.loop-at.invariant in
-    let i = inside_text in
-    (tallied_file h.0 c.loop-at-test.true c.cut-found.ensures c.is_file.ensures c.if-is_file.true _ _ c.take_file-taken.ensures.prefix_len.0 (c.take_file-taken.ensures.file_after c.if-taken.true), omega arith, omega arith, search rules)
-
-pub returns-then-is_file : goal.returns-then-is_file
-returns-then-is_file c =
-    omega (arith, c.loop-at.invariant.0.left)
-
-pub slice_bounds-file-end : goal.slice_bounds-file-end
-slice_bounds-file-end c =
-    c.loop-at.invariant.0.room
-
-pub slice_bounds-case_agrees-end : goal.slice_bounds-case_agrees-end
-slice_bounds-case_agrees-end c =
-    sym (length-take-le _ _ c.loop-at.invariant.0.room)
-
-pub slice_bounds-case_agrees-count : goal.slice_bounds-case_agrees-count
-slice_bounds-case_agrees-count c =
-    let inside_text : Inside c.args.text.now c.loop-at.at c.cut-found.result.end c.cut-found.result.rest = inside c.args.text.now c.loop-at.at c.loop-at-test.true c.cut-found.ensures in
-    omega (arith, inside_text)
-
-pub slice_bounds-case_agrees-start : goal.slice_bounds-case_agrees-start
-slice_bounds-case_agrees-start c =
-    let inside_text : Inside c.args.text.now c.loop-at.at c.cut-found.result.end c.cut-found.result.rest = inside c.args.text.now c.loop-at.at c.loop-at-test.true c.cut-found.ensures in
-    omega (arith, inside_text)
-
-pub slice_bounds-case_agrees-end-in-loop-at : goal.slice_bounds-case_agrees-end-in-loop-at
-slice_bounds-case_agrees-end-in-loop-at c =
-    let inside_text : Inside c.args.text.now c.loop-at.at c.cut-found.result.end c.cut-found.result.rest = inside c.args.text.now c.loop-at.at c.loop-at-test.true c.cut-found.ensures in
-    omega (arith, inside_text)
-
-pub overflow_add-agreed : goal.overflow_add-agreed
-overflow_add-agreed c =
-    let inside_text : Inside c.args.text.now c.loop-at.at c.cut-found.result.end c.cut-found.result.rest = inside c.args.text.now c.loop-at.at c.loop-at-test.true c.cut-found.ensures in
-    omega (arith, inside_text)
-
-pub loop-at-smaller : goal.loop-at-smaller
-loop-at-smaller c =
-    let inside_text : Inside c.args.text.now c.loop-at.at c.cut-found.result.end c.cut-found.result.rest = inside c.args.text.now c.loop-at.at c.loop-at-test.true c.cut-found.ensures in
-    omega (arith, inside_text)
-
-pub loop-at-preserved : goal.loop-at-preserved
-loop-at-preserved c =
-    let inside_text : Inside c.args.text.now c.loop-at.at c.cut-found.result.end c.cut-found.result.rest = inside c.args.text.now c.loop-at.at c.loop-at-test.true c.cut-found.ensures in
-    let h = c.loop-at.invariant in
-    let i = inside_text in
-    (tallied_case h.0 c.loop-at-test.true c.cut-found.ensures c.is_file.ensures c.if-is_file.false (c.case_agrees.ensures c.if-case_agrees.true), omega arith, omega arith, h.3)
-
-pub returns-else-case_agrees : goal.returns-else-case_agrees
-returns-else-case_agrees c =
-    omega (arith, c.loop-at.invariant.0.left)
-
-pub returns : goal.returns
-returns c =
-    omega (arith, c.loop-at.invariant.0.left)
+pub loop-rest-preserved : goal.loop-rest-preserved
+loop-rest-preserved c =
+    let rest = c.loop-rest.rest.now in
+    let h = c.loop-rest.invariant in
+    let some : 0 < length rest = grind (arith, nat_tests) in
+    let f = case_line c.cut.result.0.now (MatchOption-at_none _ _ c.in_default.is (strip_prefix_is Decides-eqb c.cut.result.0.now (61 ∷ []) _ c.strip_prefix.ensures.cases)) in
+    let shorter = past_shorter 10 rest some in
+    record {
+      tallied = case_tallied _ _ rest _ _ _ _ h.tallied some c.cut.ensures.front c.cut.ensures.back f (c.case_agrees.ensures (search rules));
+      agreed = rw c.cut.ensures.back (omega arith);
+      lines = rw c.cut.ensures.back (omega arith);
+    }

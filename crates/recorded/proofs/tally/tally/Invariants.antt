@@ -1,11 +1,14 @@
--- `recorded::tally::tally` meets its contract: what agreed so far and what is left of the text give no more than the whole.
--- Assumes nothing.
-use Rattle.std.proofs.Common.{◌≡◌, ◌-◌, ◌≤◌, length}
+-- What agreed so far and what is left of the text give no more than the whole.
+use Rattle.std.proofs.Common.{◌+◌, ◌≤◌, length}
 use Rattle.recorded.proofs.Lines.{Tallied}
 use Rattle.recorded.proofs.tally.tally.Given as goal
 
-abbrev pub invariant-loop-at : goal.invariant-loop-at
-invariant-loop-at l = Tallied l.text l.file l.n l.at l.agreed × (l.agreed ≤ l.at) × (l.line ≤ l.at) × (98304 ≡ length l.file)
+abbrev pub invariant-loop-rest : goal.invariant-loop-rest
+invariant-loop-rest l = record {
+  tallied : Tallied l.fn.text l.file l.rest l.n l.agreed;
+  agreed : l.agreed + length l.rest ≤ length l.fn.text;
+  lines : l.number + length l.rest ≤ length l.fn.text;
+}
 
-abbrev pub decreases-loop-at : goal.decreases-loop-at
-decreases-loop-at l = length l.text - l.at
+abbrev pub decreases-loop-rest : goal.decreases-loop-rest
+decreases-loop-rest l = length l.rest

@@ -1,29 +1,14 @@
--- `text::digits::hex_wrong` meets its contract: what is left of the word says what the whole word says.
--- Assumes nothing.
-use mathlib.Core.Path.{sym, ◌∙◌}
-use native.Mathlib.Omega.{arith}
-use Rattle.text.proofs.DigitLaws.{other_length, right_length, no_hex_here, hex_here, hex_end}
+-- `any` over the word is what its definition says.
+use Rattle.std.proofs.Common.{not, arith, rules}
+use Rattle.std.specs.Char.{is_digit}
+use Rattle.std.proofs.lemmas.Bool.Decides.{nat_tests}
+use Rattle.std.proofs.lemmas.Iterator.{YieldsList-from_slice}
+use Rattle.std.proofs.lemmas.Iterator.Search.{any_from_yields_List}
+use borrow.Author.Tests.{tests}
+use Rattle.text.proofs.DigitLaws.{hex_wrong_is}
 use Rattle.text.proofs.digits.hex_wrong.Goals as goal
 
-pub returns-then-word-digits : goal.returns-then-word-digits
-returns-then-word-digits c =
-    let a = c.args in sym (other_length a.word.now a.digits c.if-word-digits.true)
-
-pub loop-i-init : goal.loop-i-init
-loop-i-init c =
-    let a = c.args in (omega arith, right_length a.word.now a.digits c.if-word-digits.false)
-
-pub returns-then-hex_digit-ge16 : goal.returns-then-hex_digit-ge16
-returns-then-hex_digit-ge16 c =
-    let a = c.args in
-    sym (c.loop-i.invariant.1 ∙ no_hex_here a.word.now c.loop-i.i _ c.loop-i-test.true c.hex_digit.ensures.0 c.if-hex_digit-ge16.true)
-
-pub loop-i-preserved : goal.loop-i-preserved
-loop-i-preserved c =
-    let a = c.args in
-    (omega arith, c.loop-i.invariant.1 ∙ hex_here a.word.now c.loop-i.i _ c.loop-i-test.true c.hex_digit.ensures.0 c.if-hex_digit-ge16.false)
-
-pub returns : goal.returns
-returns c =
-    let a = c.args in
-    sym (c.loop-i.invariant.1 ∙ hex_end a.word.now c.loop-i.i c.loop-i-test.false)
+pub returns-else-word-digits : goal.returns-else-word-digits
+returns-else-word-digits c =
+    let e = any_from_yields_List (λ b. not (is_digit b 16)) _ _ _ c.any.ensures.ran (YieldsList-from_slice c.args.word.now cc) (λ x b q k. search (rules, tests)) in
+    rw hex_wrong_is (grind (arith, nat_tests))

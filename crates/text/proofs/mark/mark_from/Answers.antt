@@ -1,26 +1,19 @@
--- `text::mark::mark_from` meets its contract: what is before the mark from here on ends where what is before it from the start on does.
--- Assumes nothing.
-use mathlib.Core.Path.{refl, ap}
-use native.Mathlib.Omega.{arith}
-use lib.ListN.{length}
-use Rattle.text.proofs.Marks.{mark_here, mark_on, mark_none}
+-- What is before the first mark is as long as the place that `position` finds, or as the rest.
+use Rattle.std.proofs.Common.{◌≡◌, eqb, drop, arith, rules}
+use Rattle.std.proofs.lemmas.Grind.{common_steps}
+use Rattle.std.proofs.lemmas.Iterator.{YieldsList-from_slice}
+use Rattle.std.proofs.lemmas.Iterator.Search.{position_from_yields_List}
+use borrow.Author.Tests.{tests}
+use Rattle.text.proofs.Marks.{found_place, before_past}
 use Rattle.text.proofs.mark.mark_from.Goals as goal
 
-pub loop-i-init : goal.loop-i-init
-loop-i-init c =
-    refl
-
-pub returns-then-l-i : goal.returns-then-l-i
-returns-then-l-i c =
-    let a = c.args in
-    omega (arith, ap length (mark_here a.mark a.l.now c.loop-i.i c.loop-i-test.true c.if-l-i.true))
-
-pub loop-i-preserved : goal.loop-i-preserved
-loop-i-preserved c =
-    let a = c.args in
-    omega (arith, mark_on a.mark a.l.now c.loop-i.i c.loop-i-test.true c.if-l-i.false)
+pub returns-in_default : goal.returns-in_default
+returns-in_default c = grind (arith, common_steps, before_past)
 
 pub returns : goal.returns
 returns c =
     let a = c.args in
-    omega (arith, ap length (mark_none a.mark a.l.now c.loop-i.i c.loop-i-test.false))
+    let rest = c.in-Some.rest.now in
+    let found = position_from_yields_List (λ b. eqb b a.mark) _ _ c.position.result c.position.ensures.ran (YieldsList-from_slice rest cc) (λ x b q k. search (rules, tests)) in
+    let e : rest ≡ drop a.from a.l.now = grind (arith, common_steps) in
+    rw (c.unwrap_or.ensures, found_place a.mark rest _ found, e)

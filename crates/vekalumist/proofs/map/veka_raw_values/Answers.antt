@@ -1,30 +1,19 @@
--- `vekalumist::map::veka_raw_values` meets its contract: each arm is a case of the outcome. Assumes nothing.
-use mathlib.Core.Path.{sym, ap, ◌∙◌}
-use Prim.Native.Nat.{◌+◌, ◌*◌, ◌≤◌}
-use native.Mathlib.Omega.{arith}
-use lib.ListN.{length}
+-- `vekalumist::map::veka_raw_values` meets its contract: values that are found lie inside the file, so their bytes are a number. Assumes nothing.
+use Rattle.std.proofs.Common.{◌≡◌, ◌*◌, ◌^◌, ◌<◌, ℕ, List, length, sym, ap, ◌∙◌, arith}
+use Rattle.std.specs.Prelude.{Option, Some, None, IfSome}
+use Rattle.wire.specs.Table.{accepted}
 use Rattle.advice.proofs.Halving.{found_inside}
 use Rattle.advice.specs.Lookup.{lookup_outcome}
-use Rattle.advice.specs.Shown.{shown_lookup}
-use Rattle.vekalumist.proofs.Told.{accepts, refuses}
-use Rattle.vekalumist.specs.Answers.{laid, part_row}
+use Rattle.advice.specs.Shown.{looked, shown_lookup}
+use Rattle.advice.specs.declared.walk.Values.{Values}
 use Rattle.vekalumist.proofs.map.veka_raw_values.Goals as goal
 
-pub overflow_mul-part : goal.overflow_mul-part
-overflow_mul-part c =
-    let inside : c.in-Found.values.0 + 8 * c.in-Found.len ≤ length c.args.s.now = let a = c.args in
-    found_inside a.s.now a.keys.now a.n a.key.now _ _ _
-    (◌∙◌ {c = lookup_outcome a.s.now a.keys.now a.n a.key.now} (ap shown_lookup (sym c.in-Found.is)) c.lookup.ensures) in
-    omega (arith, inside)
+fit : (s t : List ℕ) (n : ℕ) (key : List ℕ) (v : Option Values) (compared : ℕ) → length s < 2 ^ 64 → accepted (looked v compared) ≡ lookup_outcome s t n key
+    → IfSome v (λ v. 8 * v.len < 2 ^ 64)
+fit s t n key None compared h e = tt
+fit s t n key (Some v) compared h e = omega (arith, found_inside s t n key v.at.0 v.len compared e)
 
-pub returns-in-Refused : goal.returns-in-Refused
-returns-in-Refused c =
-    let both = refuses _ _ (ap (laid part_row) (sym c.lookup.ensures ∙ ap shown_lookup c.in-Refused.is)) c.refuse.ensures.value c.refuse.ensures.place_after in record { value = both.0; part_after = both.1.0; place_after = both.1.1 }
-
-pub returns-in-Found : goal.returns-in-Found
-returns-in-Found c =
-    let both = accepts _ _ (ap (laid part_row) (sym c.lookup.ensures ∙ ap shown_lookup c.in-Found.is)) in record { value = both.0; part_after = both.1.0; place_after = both.1.1 }
-
-pub returns-in-Absent : goal.returns-in-Absent
-returns-in-Absent c =
-    let both = accepts _ _ (ap (laid part_row) (sym c.lookup.ensures ∙ ap shown_lookup c.in-Absent.is)) in record { value = both.0; part_after = both.1.0; place_after = both.1.1 }
+pub map-requires : goal.map-requires
+map-requires c = λ x e.
+    let a = c.args in
+    fit a.s.now a.keys.now a.n a.key.now x.values x.compared (omega arith) (sym (ap shown_lookup e) ∙ c.lookup.ensures)

@@ -11,6 +11,7 @@ use Rattle.wire.specs.Table.{Outcome, At, accepted}
 use Rattle.wire.specs.Le.{Bytes}
 use Rattle.wire.specs.Counts.{count_of, count_length, Form}
 use Rattle.wire.specs.declared.count.Count.{Count}
+use Rattle.wire.proofs.Le.{le-part}
 use Rattle.wire.proofs.Numbers.{all_there}
 use Rattle.wire.proofs.Counts.{whole_upto_8}
 use Rattle.wire.proofs.Forms.{upto_8_form, shortest_zeros}
@@ -44,11 +45,6 @@ overflow_cast-zeros c =
     let fewer : count_trailing_zeros 8 (get_or c.args.s.now c.args.at.0 0) < 8 = let a = c.args in
     byte_zeros (get_or a.s.now a.at.0 0) (c.type_inv.s a.at.0).fits (omega arith) in
     omega (arith, fewer)
-
-pub eight_in-requires : goal.eight_in-requires
-eight_in-requires c =
-    let eight : c.args.at.0 + 8 ≤ length c.args.s.now = let a = c.args in all_there 8 a.s.now a.at.0 (sym c.is_short.ensures ∙ c.if-is_short.false) in
-    eight
 
 pub overflow_mul-up : goal.overflow_mul-up
 overflow_mul-up c =
@@ -97,8 +93,8 @@ returns c =
     let bytes : Bytes a.s.now = λ i. (c.type_inv.s i).fits in
     let there = eight in
     let few = fewer in
-    let word = c.eight_in.result in
-    let value = ap (λ (w : ℕ). shifted w zeros) c.eight_in.ensures ∙ value_together a.s.now a.at.0 zeros bytes there few in
+    let word = c.number_in.result in
+    let value = ap (λ (w : ℕ). shifted w zeros) (c.number_in.ensures ∙ le-part c.args.s.now c.args.at.0 8) ∙ value_together a.s.now a.at.0 zeros bytes there few in
     let form : Form (zeros + 1) (shifted word zeros) = rw value (upto_8_form a.s.now a.at.0 bytes (omega arith) (omega arith)) in
     let flag = rw (← top_seven word zeros few) at (shortest_zeros zeros (shifted word zeros) form) in
     let says : Bool → Outcome (At Count) = λ b. accepted (record { value = record { value = shifted word zeros; len = zeros + 1; shortest = b }; next = a.at.0 + (zeros + 1) }) in

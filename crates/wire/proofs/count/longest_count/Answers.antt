@@ -6,6 +6,7 @@ use native.Mathlib.Omega.{arith}
 use lib.ListN.{length, get_or}
 use Rattle.wire.specs.Le.{Bytes}
 use Rattle.wire.specs.Counts.{count_length}
+use Rattle.wire.proofs.Le.{le-part}
 use Rattle.wire.proofs.Counts.{length_of_zero, count_short, whole_9}
 use Rattle.wire.proofs.Forms.{nine_form}
 use Rattle.wire.proofs.count.longest_count.Goals as goal
@@ -25,11 +26,6 @@ overflow_add-from c =
     let nine : c.args.at.0 + 9 ≤ length c.args.s.now = omega (arith, c.requires.0) in
     omega (arith, nine)
 
-pub eight_in-value-requires : goal.eight_in-value-requires
-eight_in-value-requires c =
-    let nine : c.args.at.0 + 9 ≤ length c.args.s.now = omega (arith, c.requires.0) in
-    omega (arith, nine)
-
 pub is_shortest-requires : goal.is_shortest-requires
 is_shortest-requires c =
     let nine : c.args.at.0 + 9 ≤ length c.args.s.now = omega (arith, c.requires.0) in
@@ -37,7 +33,7 @@ is_shortest-requires c =
     let len : count_length (get_or a.s.now a.at.0 0) ≡ 9 = ap count_length c.requires.1 ∙ length_of_zero in
     let bytes : Bytes a.s.now = λ i. (c.type_inv.s i).fits in
     let there = nine in
-    rw c.eight_in-value.ensures (rw len at (nine_form a.s.now a.at.0 bytes (omega arith) (omega arith)))
+    rw (c.number_in-value.ensures ∙ le-part c.args.s.now (c.args.at.0 + 1) 8) (rw len at (nine_form a.s.now a.at.0 bytes (omega arith) (omega arith)))
 
 pub returns : goal.returns
 returns c =
@@ -45,4 +41,4 @@ returns c =
     let a = c.args in
     let len : count_length (get_or a.s.now a.at.0 0) ≡ 9 = ap count_length c.requires.1 ∙ length_of_zero in
     let there = nine in
-    rw (c.is_shortest.ensures, c.eight_in-value.ensures) (rw len at (sym (whole_9 a.s.now a.at.0 (omega arith) (omega arith))))
+    rw (c.is_shortest.ensures, (c.number_in-value.ensures ∙ le-part c.args.s.now (c.args.at.0 + 1) 8)) (rw len at (sym (whole_9 a.s.now a.at.0 (omega arith) (omega arith))))

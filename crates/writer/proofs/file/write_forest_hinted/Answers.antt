@@ -1,32 +1,41 @@
--- `writer::file::write_forest_hinted` meets its contract: what is judged first, then the room. Assumes nothing.
-use mathlib.Core.Path.{◌≡◌, sym, ap, ◌∙◌}
-use Rattle.writer.specs.Shown.{lent}
-use Rattle.writer.specs.Inner.{shown_nodes, fit_outcome}
-use Rattle.writer.proofs.Split.{fitting, refuses, decides}
+-- `writer::file::write_forest_hinted` meets its contract: the stages are the table, and a refusal leaves the output. Assumes nothing.
+use Rattle.std.proofs.Common.{sym, rules}
+use Rattle.std.proofs.lemmas.Result.{err_from_is_err_and}
+use Rattle.writer.specs.Shown.{lent_parts}
+use Rattle.writer.proofs.Split.{fitting, stopped, decided, as_it_was, overwritten}
 use Rattle.writer.proofs.file.write_forest_hinted.Goals as goal
 
-pub write_fitting-requires : goal.write_fitting-requires
-unfolding fit_outcome
-write_fitting-requires c =
-    let parts = let a = c.args in
-    lent a.flags a.roots.now a.blocks.now a.words.now a.external.now a.hashes.now a.keys.now a.lengths.now a.values.now in
-    let judged : shown_nodes c.check_parts.result ≡ fit_outcome c.args.f (parts) = c.check_parts.ensures in
-    fitting c.args.f (parts) _ (sym (judged) ∙ ap shown_nodes c.in-Counted.is)
+pub returns-in_err-externals-clause-result_value : goal.returns-in_err-externals-clause-result_value
+returns-in_err-externals-clause-result_value c =
+    let p = err_from_is_err_and c.from_residual.result c.from_residual.ensures.1 in
+    rw (p.1, p.2) (stopped _ _ c.args.out.now c.in_err-externals.ensures)
 
-pub returns-in-Refused : goal.returns-in-Refused
-unfolding fit_outcome
-returns-in-Refused c =
-    let parts = let a = c.args in
-    lent a.flags a.roots.now a.blocks.now a.words.now a.external.now a.hashes.now a.keys.now a.lengths.now a.values.now in
-    let judged : shown_nodes c.check_parts.result ≡ fit_outcome c.args.f (parts) = c.check_parts.ensures in
-    let both = let a = c.args in
-    refuses a.f (parts) _ _ a.out.now (sym (ap shown_nodes c.in-Refused.is) ∙ judged) in record { result_value = both.0; out_after = both.1 }
+pub returns-in_err-externals-clause-out_after : goal.returns-in_err-externals-clause-out_after
+returns-in_err-externals-clause-out_after c = as_it_was _ _ _ (stopped _ _ c.args.out.now c.in_err-externals.ensures)
 
-pub returns-in-Counted : goal.returns-in-Counted
-unfolding fit_outcome
-returns-in-Counted c =
-    let parts = let a = c.args in
-    lent a.flags a.roots.now a.blocks.now a.words.now a.external.now a.hashes.now a.keys.now a.lengths.now a.values.now in
-    let judged : shown_nodes c.check_parts.result ≡ fit_outcome c.args.f (parts) = c.check_parts.ensures in
-    let both = let a = c.args in
-    decides a.f (parts) _ a.out.now _ _ (sym (ap shown_nodes c.in-Counted.is) ∙ judged) c.write_fitting.ensures.result_value c.write_fitting.ensures.out_after in record { result_value = both.0; out_after = both.1 }
+pub size_within-requires : goal.size_within-requires
+size_within-requires c = (fitting c.args.f (lent_parts c.args.parts.now) _ (sym c.in_ok-externals.ensures)).few
+
+pub returns-in_err-size-clause-result_value : goal.returns-in_err-size-clause-result_value
+returns-in_err-size-clause-result_value c =
+    let p = err_from_is_err_and c.from_residual-in_err-size.result c.from_residual-in_err-size.ensures.1 in
+    rw (p.1, p.2)
+    (decided _ _ c.args.out.now c.in_ok-externals.ensures (search rules) (search rules) c.size_within.ensures.numbered c.in_err-size.ensures.size)
+
+pub returns-in_err-size-clause-out_after : goal.returns-in_err-size-clause-out_after
+returns-in_err-size-clause-out_after c =
+    as_it_was _ _ _
+    (decided _ _ c.args.out.now c.in_ok-externals.ensures (search rules) (search rules) c.size_within.ensures.numbered c.in_err-size.ensures.size)
+
+pub write_file-requires-clause-fitting : goal.write_file-requires-clause-fitting
+write_file-requires-clause-fitting c = fitting c.args.f (lent_parts c.args.parts.now) _ (sym c.in_ok-externals.ensures)
+
+pub returns-clause-result_value : goal.returns-clause-result_value
+returns-clause-result_value c =
+    decided _ _ c.args.out.now c.in_ok-externals.ensures (search rules) (search rules) c.size_within.ensures.numbered c.in_ok-size.ensures.size
+
+pub returns-clause-out_after : goal.returns-clause-out_after
+returns-clause-out_after c =
+    overwritten _ _ _
+    (decided _ _ c.args.out.now c.in_ok-externals.ensures (search rules) (search rules) c.size_within.ensures.numbered c.in_ok-size.ensures.size)
+    c.write_file.ensures

@@ -1,14 +1,10 @@
--- `writer::group::write_entry` meets its contract: key, count and values, each into its own part. Assumes nothing.
-use mathlib.Core.Path.{sym, ◌∙◌}
-use native.Mathlib.Omega.{arith}
-use borrow.Author.Rules.{rules}
-use Rattle.wire.proofs.Leaves.{length-rows}
-use Rattle.writer.proofs.Lent.{three}
-use Rattle.writer.proofs.Counted.{length-count}
+-- `writer::group::write_entry` meets its contract: the numbers of the key and the values are their own. Assumes nothing.
+use Rattle.std.proofs.Common.{rules}
+use Rattle.std.proofs.lemmas.List.{map-id}
 use Rattle.writer.proofs.group.write_entry.Goals as goal
 
 pub returns : goal.returns
 returns c =
-    three c.args.part.now c.put_words.ensures (length-rows 8 _)
-    c.put_count.ensures (length-count _ (search rules) ∙ sym c.shortest_len.ensures)
-    c.put_words-2.ensures (length-rows 8 _) (omega (arith, c.requires, c.shortest_len.ensures))
+    let key = simp map-id at (c.put_rows.ensures (λ x. x) (λ x r p. search rules)) in
+    let values = simp map-id at (c.put_rows-2.ensures (λ x. x) (λ x r p. search rules)) in
+    cc

@@ -1,9 +1,6 @@
 -- `writer::key::check_keys` meets its contract. The invariant: the highest key so far is at `top`, and what is left of the rules gives the answer.
 -- Assumes nothing.
-use mathlib.Core.Path.{◌≡◌}
-use mathlib.Core.List.{[]}
-use Prim.Native.Nat.{◌-◌, ◌≤◌}
-use lib.ListN.{length}
+use Rattle.std.proofs.Common.{◌≡◌, ◌≤◌, []}
 use Rattle.wire.specs.Table.{checked}
 use Rattle.writer.specs.Writer.{key_rules}
 use Rattle.writer.specs.Inner.{Top}
@@ -11,7 +8,4 @@ use Rattle.writer.proofs.Keys.{left}
 use Rattle.writer.proofs.key.check_keys.Given as goal
 
 abbrev pub invariant-loop-i : goal.invariant-loop-i
-invariant-loop-i l = (l.i ≤ length l.lengths) × (l.top ≤ l.i) × Top l.keys l.i l.top × (left l.keys l.lengths l.i ≡ checked (key_rules 0 [] l.keys l.lengths))
-
-abbrev pub decreases-loop-i : goal.decreases-loop-i
-decreases-loop-i l = length l.lengths - l.i
+invariant-loop-i l = (l.top ≤ l.i) × Top l.keys l.i l.top × (left l.keys l.lengths l.i ≡ checked (key_rules 0 [] l.keys l.lengths))

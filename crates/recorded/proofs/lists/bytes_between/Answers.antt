@@ -1,8 +1,0 @@
--- `recorded::lists::bytes_between` meets its contract.
--- Assumes nothing.
-use Rattle.recorded.proofs.Copies.{between_inside}
-use Rattle.recorded.proofs.lists.bytes_between.Goals as goal
-
-pub returns : goal.returns
-returns c =
-    let a = c.args in between_inside a.from a.to a.s.now _ _ c.least-end.ensures c.least-start.ensures
