@@ -176,7 +176,7 @@ def others():
         faults.append(f"crates/recorded: stdin has {cases} cases, and stdout ends: {said}")
     decisions = re.findall(r"^- \*\*\w+-\d+\*\*", (ROOT / "docs/DECISIONS.md").read_text(), re.M)
     c_functions = [name for path in sorted(ROOT.glob("crates/vekalumist_c/src/*.rt")) for name in re.findall(r'pub extern "C" fn veka_', path.read_text())]
-    refusals = re.findall(r"Refusal::\w+ => \d+", (ROOT / "crates/wire/src/refusal.rt").read_text())
+    refusals = re.findall(r"^    \w+(?: = \d+)?,$", re.search(r"pub enum Refusal \{(.*?)\n\}", (ROOT / "crates/wire/src/refusal.rt").read_text(), re.S)[1], re.M)
     return (
         head("what", "how many")
         + row("refusals (`crates/wire/src/refusal.rt`)", len(refusals))

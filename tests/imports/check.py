@@ -4,10 +4,10 @@
     check.py         says what is unused, by file and line
     check.py --fix   takes unused names out of the imports
 
-A name counts as used if it stands anywhere else in its file outside comments; an operator `◌+◌` where `+` stands, a trait of std where one of its
-functions is called. A law (a `pub` name declared in proofs/*.antt; those of crate promises are the conclusions) counts as cited if it stands
-anywhere but in its own declaration, in a file under crates/ or in a paper under docs/. Names are compared as words, so a law that shares its name
-with something else counts as cited.
+A name counts as used if it stands anywhere else in its file outside comments; an operator `◌+◌` where `+` stands, and `◌>>=◌` where a `do` block
+does; a trait of std where one of its functions is called. A law (a `pub` name declared in proofs/*.antt; those of crate promises are the
+conclusions) counts as cited if it stands anywhere but in its own declaration, in a file under crates/ or in a paper under docs/. Names are compared
+as words, so a law that shares its name with something else counts as cited.
 """
 import re
 import sys
@@ -37,7 +37,7 @@ def words(code):
     for word in list(found):
         found.update(re.findall(r"[\w'′₀-₉-]+", word))
         found.update(re.split(r'::|[&!?*<>=:]', word))
-    return found
+    return found | {'>>='} if 'do' in found else found
 
 
 def is_used(name, found):
@@ -94,8 +94,11 @@ def main():
             print(f'{path.relative_to(ROOT)}:{line}: unused: {item or m.group(1).strip()}')
         if fix and drops:
             path.write_text(without(path.read_text(), drops))
+        code = body(bare(path))
+        named.update(WORD.findall(code))
         # a function's attribute names a law by its whole path
-        named.update(part for word in WORD.findall(body(bare(path))) for part in word.split('::'))
+        for attribute in re.findall(r'#\[tactic\((.*?)\)\]', code, re.S):
+            named.update(re.findall(r'\w+', attribute))
     for path in (ROOT / 'docs').rglob('*.md'):
         named.update(re.findall(r'[^\s`(),;:|]+', path.read_text()))
     for path in files:

@@ -47,7 +47,7 @@ fn turn(range: Range, below: bool) -> Range
 }
 
 // Turns by the first elements alone, as far as they tell: a tie, or a key that is not all in the file, is left to the plain
-// halving.
+// halving. (A `while`: a range says when nothing is left of it.)
 fn narrow(s: &[u8], keys: &[u64], range: Range, key: [u64; 4]) -> Range
     requires { Within (length keys.now) range }
     ensures within { Within (length keys.now) result }
@@ -127,7 +127,7 @@ fn halve(
     halve_left(s, keys, range, key)
 }
 
-// Whether some values are all elements, or the place of the first that is none.
+// Whether some values are all elements, or the place of the first that is none: by number, of which that place is made.
 fn check_elements(s: &[u8], values: Values) -> Result<(), Refused<ByteOffset>>
     requires { values.at.0 + 8 * values.len ≤ length s.now }
     ensures { shown_elements result ≡ elements_outcome s.now values.at.0 values.len }
@@ -155,7 +155,7 @@ fn read_found(s: &[u8], at: ByteOffset) -> Result<Values, Refused<ByteOffset>>
 }
 
 // A key among the first n offsets of a table, over any bytes and any table. A refusal has its place as a plain number: with
-// ROOM it is the n that was given, and no byte offset.
+// ROOM it is the n that was given, and no byte offset. (n stands beside the table, since a table that is shorter is that refusal.)
 pub fn lookup(s: &[u8], keys: &[u64], n: usize, key: [u64; 4]) -> Result<MapLookup, Refused<usize>>
     ensures { shown_lookup result ≡ lookup_outcome s.now keys.now n key }
 {

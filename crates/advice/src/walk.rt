@@ -94,7 +94,7 @@ fn read_map_entry(s: &[u8], at: ByteOffset) -> Result<(bool, Cursor), Refused<By
 }
 
 // Fills in the offsets of a map's keys as they come, up to the first entry that is refused, and counts the long counts.
-// Duplicates are left for later.
+// Duplicates are left for later. (By number: the place in the table, its room and the answer are made of it.)
 fn fill(s: &[u8], at: ByteOffset, count: Count, keys: &mut [u64]) -> Filled
     ensures { FilledTo s.now at.0 count keys.old keys.new result }
 {

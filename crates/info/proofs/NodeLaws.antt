@@ -1,6 +1,6 @@
 -- The laws of the vocabulary of nodes.
 --     each_tag, by_tag                  the cases of a tag, and of one that reads
---     kind_is_tag, numbers_pair, ..     the kind of what a tag and a payload read as is the tag, and its numbers are those of the payload
+--     kind_is_tag, numbers_single, ..   the kind of what a tag and a payload read as is the tag, and its numbers are those of the payload
 --     decoded_kind                      so the kind of what a word decodes to is the word's tag
 --     decoded_external, decoded_class   and so are the questions that the kind answers
 --     class_there                       a class can be had back from its place in the order

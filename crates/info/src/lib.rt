@@ -137,7 +137,8 @@ pub fn encode_entry(entry: MastNodeEntry) -> Result<u64, Refused<ByteOffset>>
     Ok(u64::from(kind_of(entry)) * TAG_UNIT + payload)
 }
 
-// The written form of the entry that a word reads as.
+// The written form of the entry that a word reads as. It compares the tag and makes no entry, for the sake of loops over words
+// (docs/DECISIONS.md, form-3).
 pub fn canonical_word(word: u64) -> u64
     ensures { result ≡ canonical word }
 {

@@ -8,7 +8,7 @@ ghost use Rattle.info.specs.Shown.{shown_children, shown_class, shown_made};
 use crate::MastNodeEntry;
 use wire::refusal::{Refusal, Refused};
 
-// The children of a node, left first.
+// The children of a node, left first: none, one or two.
 #[derive(Clone, Copy)]
 pub enum Children {
     None,
@@ -24,7 +24,7 @@ pub enum Class {
     Other,
 }
 
-// The kind, by its tag: the format's number, which an entry's word holds.
+// The kind, by its tag: the format's number, which an entry's word holds and C is told (`kind_of` is that number).
 pub fn kind_of(entry: MastNodeEntry) -> u8
     ensures { result ≡ kind_of entry }
 {
@@ -80,7 +80,8 @@ pub fn children_of(entry: MastNodeEntry) -> Children
     }
 }
 
-// The entry of a kind with two numbers, of which a kind that has fewer leaves the rest; or INDEX with a kind that there is not.
+// The entry of a kind with two numbers, of which a kind that has fewer leaves the rest; or INDEX with a kind that there is not. The kind is a
+// number, since an entry crosses to and from C as numbers.
 #[tactic(auto, unfolding(wire::specs::Table::first_met, crate::specs::Node::make_outcome))]
 pub fn make_entry(kind: usize, a: u32, b: u32) -> Result<MastNodeEntry, Refused<usize>>
     ensures { shown_made result ≡ make_outcome kind a b }

@@ -141,18 +141,18 @@ pass_row s first (suc n) k p e = go (entry_pass (row_outcome s first) n) (λ q. 
 module _ (s : List ℕ) (first : ℕ) (h : Nodes) (inside : first + 8 * node_count h ≤ length s) (fits : length s < 2 ^ 64) where
   -- the pass, and then the number of externals
   stage : checked (entry_section_rules first h s)
-      ≡ (at_byte first (entry_pass (row_outcome s first) (node_count h)) >>= (λ x. checked (rule EXTERNALS h.external.start.0 (not (eqb x h.external.count)) ∷ [])))
+      ≡ (at_byte first (entry_pass (row_outcome s first) (node_count h)) >>= (λ x. checked (rule EXTERNALS h.internal.next.0 (not (eqb x h.external.count)) ∷ [])))
   unfolding entry_section_rules
   stage =
       let words = words_at s first (node_count h) in
-      in_turn (words_rules 8 first words) (externals words) (λ x. rule EXTERNALS h.external.start.0 (not (eqb x h.external.count)) ∷ []) (λ _. tt) _ (λ x. refl)
+      in_turn (words_rules 8 first words) (externals words) (λ x. rule EXTERNALS h.internal.next.0 (not (eqb x h.external.count)) ∷ []) (λ _. tt) _ (λ x. refl)
       ∙ rw (words_pass s first fits (node_count h) inside)
 
   pub entries_refused : (k i : ℕ) → entry_pass (row_outcome s first) (node_count h) ≡ refused k i → checked (entry_section_rules first h s) ≡ refused k (first + 8 * i)
   unfolding ◌>>=◌
   entries_refused k i e = stage ∙ rw e
 
-  pub entries_differ : (x : ℕ) → entry_pass (row_outcome s first) (node_count h) ≡ accepted x → (x ≡ h.external.count → ⊥) → checked (entry_section_rules first h s) ≡ refused EXTERNALS h.external.start.0
+  pub entries_differ : (x : ℕ) → entry_pass (row_outcome s first) (node_count h) ≡ accepted x → (x ≡ h.external.count → ⊥) → checked (entry_section_rules first h s) ≡ refused EXTERNALS h.internal.next.0
   unfolding ◌>>=◌ first_met
   entries_differ x e d = stage ∙ rw (e, ne_eqb x h.external.count d)
 

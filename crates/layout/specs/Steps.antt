@@ -18,7 +18,7 @@ use Rattle.layout.specs.declared.head.Head.{Head}
 
 -- the count at a place
 abbrev pub here : List ℕ → ℕ → CountAt
-here s at = let c = counted s at in record { start = record { 0 = at }; count = c.value; next = record { 0 = at + c.len }; shortest = c.shortest }
+here s at = let c = counted s at in record { count = c.value; next = record { 0 = at + c.len }; shortest = c.shortest }
 
 -- what the header and the two node counts say
 pub record Nodes : Type 0 where
@@ -86,8 +86,8 @@ abbrev pub head_rules : FormatFacts → List ℕ → List Rule
 head_rules f s =
     let internal = here s 8 in
     let external = here s internal.next.0 in
-    count_rule s internal.start.0
-    ∷ count_rule s external.start.0
+    count_rule s 8
+    ∷ count_rule s internal.next.0
     ∷ rule OVERFLOW 8 (over (internal.count + external.count))
     ∷ rule TOO-MANY 8 (ltb f.max_nodes (internal.count + external.count))
     ∷ []
@@ -123,7 +123,7 @@ words_at s first n = numbers_of 8 n (slice first (first + 8 * n) s)
 unfoldable pub entry_section_rules : ℕ → Nodes → List ℕ → List Rule
 entry_section_rules first h s =
     let words = words_at s first (node_count h) in
-    words_rules 8 first words ++ (rule EXTERNALS h.external.start.0 (not (eqb (externals words) h.external.count)) ∷ [])
+    words_rules 8 first words ++ (rule EXTERNALS h.internal.next.0 (not (eqb (externals words) h.external.count)) ∷ [])
 
 -- ---- the stages
 

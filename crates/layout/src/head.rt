@@ -7,11 +7,9 @@ use crate::forest::ForestLayout;
 use wire::count::long_one;
 use wire::units::{ByteOffset, Slot};
 
-// One of the four counts: where it starts, what it says, where the file goes on after it; and whether it
-// is the shortest.
+// One of the four counts: what it says, where the file goes on after it, and whether it is the shortest.
 #[derive(Clone, Copy)]
 pub(crate) struct CountAt {
-    pub start: ByteOffset,
     pub count: usize,
     pub next: ByteOffset,
     pub shortest: bool,
@@ -28,7 +26,7 @@ pub(crate) struct Head {
 impl Head {
     ghost use Rattle.layout.specs.Steps.{nodes_of, node_count, fixed_of, layout_of, long_of};
 
-    pub fn node_count(self) -> usize
+    pub(crate) fn node_count(self) -> usize
         ensures { result ≡ node_count (nodes_of self) }
     {
         self.internal.count + self.external.count
@@ -42,14 +40,14 @@ impl Head {
     }
 
     // The bytes of entries, digests and hashes.
-    pub fn fixed_bytes(self) -> usize
+    pub(crate) fn fixed_bytes(self) -> usize
         ensures { result ≡ fixed_of (nodes_of self) }
     {
         8 * self.node_count() + (32 * self.external.count + self.hash_bytes())
     }
 
     // The layout record. All its sections are inside the file, so nothing wraps.
-    pub fn layout(self, roots: CountAt, blocks: CountAt) -> ForestLayout
+    pub(crate) fn layout(self, roots: CountAt, blocks: CountAt) -> ForestLayout
         requires { blocks.next.0 + (blocks.count + fixed_of (nodes_of self)) < 2 ^ 64 }
         ensures { result ≡ layout_of (nodes_of self) roots blocks }
     {
@@ -73,7 +71,7 @@ impl Head {
     }
 
     // How many of the four counts are long.
-    pub fn long_counts(self, roots: CountAt, blocks: CountAt) -> usize
+    pub(crate) fn long_counts(self, roots: CountAt, blocks: CountAt) -> usize
         ensures { result ≡ long_of (nodes_of self) roots blocks }
     {
         long_one(self.internal.shortest)

@@ -82,7 +82,6 @@ fn count_at(s: &[u8], start: ByteOffset) -> Result<CountAt, Refused<ByteOffset>>
 {
     let (count, after) = read_count(s, start)?;
     Ok(CountAt {
-        start,
         count: count.value as usize,
         next: after.at,
         shortest: count.shortest,
@@ -167,7 +166,9 @@ fn read_blocks(
     Ok(blocks)
 }
 
-// The entries, and whether as many are external as the header says.
+// The entries, and whether as many are external as the header says. (A head handed over in memory would
+// cost the scan of a small file more than all its tests.)
+#[inline(always)]
 fn check_entries(s: &[u8], first: ByteOffset, head: Head) -> Result<(), Refused<ByteOffset>>
     requires { first.0 + 8 * node_count (nodes_of head) ≤ length s.now }
     ensures { shown_stage result ≡ checked (entry_section_rules first.0 (nodes_of head) s.now) }
@@ -177,7 +178,7 @@ fn check_entries(s: &[u8], first: ByteOffset, head: Head) -> Result<(), Refused<
         Err(row) => return Err(row.told_at(ByteOffset(first.0 + 8 * row.at))),
     };
     if externals != head.external.count {
-        return Err(refused(Refusal::Externals, head.external.start));
+        return Err(refused(Refusal::Externals, head.internal.next));
     }
     Ok(())
 }

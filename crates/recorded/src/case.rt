@@ -16,6 +16,8 @@ use crate::reading::{cut, numbers_of};
 use crate::told::Case;
 use crate::written::{stored_agrees, written_agrees};
 
+// The call's number comes from the text, and is matched once. (A function for each call, since each differs in the function called
+// and in what its answer is: for one over a closure there would be as many closures.)
 fn call_agrees(call: u64, case: &Case, lent: &mut [u64]) -> bool
     ensures { IsTrue result → Records case.now call lent.old }
 {
@@ -47,7 +49,8 @@ fn call_agrees(call: u64, case: &Case, lent: &mut [u64]) -> bool
     }
 }
 
-// A line has three groups of numbers: the call and what it is given, the memory that is lent, and the recorded row.
+// A line has three groups of numbers: the call and what it is given, the memory that is lent, and the recorded row. (Fixed memory,
+// of which the first numbers count: the program's limits are said at its head.)
 pub(crate) fn case_agrees(file: &[u8], line: &[u8]) -> bool
     ensures { IsTrue result → agrees file.now line.now ≡ true }
 {

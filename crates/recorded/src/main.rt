@@ -33,18 +33,16 @@ use tally::tally;
 fn print_section(rt: &impl Print, section: &[u8]) -> io::Result<u64> {
     let (title, lines) = cut(section, b'\n');
     let counted = tally(lines);
-    rt.print(counted.agreed)?;
-    rt.write_all(b" agree: ")?;
+    print!(rt; "{} agree: ", counted.agreed)?;
     rt.write_all(title)?;
     if let Some(line) = counted.lost {
-        rt.write_all(b", but not line ")?;
-        rt.print(line)?;
+        print!(rt; ", but not line {line}")?;
     }
-    rt.write_all(b"\n")?;
+    println!(rt; "")?;
     Ok(counted.agreed)
 }
 
-// What comes before the first `@` is no section.
+// What comes before the first `@` is no section. (A `while`: the text is cut as it goes.)
 fn print_all(rt: &impl Print, text: &[u8]) -> io::Result<()> {
     let mut agreed: u64 = 0;
     let (_, mut rest) = cut(text, b'@');
@@ -53,12 +51,12 @@ fn print_all(rt: &impl Print, text: &[u8]) -> io::Result<()> {
         agreed = agreed.wrapping_add(print_section(rt, section)?);
         rest = after;
     }
-    rt.print(agreed)?;
-    rt.write_all(b" agree in all\n")
+    println!(rt; "{agreed} agree in all")
 }
 
 // Reads until the buffer is full or the input ends, and answers how many bytes it put at the start of the
-// buffer. An error is the input's own: what came before it stands at the buffer's start.
+// buffer. An error is the input's own: what came before it stands at the buffer's start. (`read_exact` refuses a
+// shorter input; `mast_layout` has this loop with more promised, and the two programs share no crate that reads.)
 fn read_full<R: Read>(input: &mut R, buf: &mut [u8]) -> io::Result<usize>
     ensures bound { ReadsAtMost result buf.new }
     ensures bytes { IfOk result (λ n. Consumes (R.remaining input.old) (R.remaining input.new) (take n buf.new)) }

@@ -13,7 +13,8 @@ pub(crate) struct Counted {
     pub(crate) lost: Option<u64>,
 }
 
-// It ends at the first case that does not agree, or at a file that cannot be read.
+// It ends at the first case that does not agree, or at a file that cannot be read. (A `while`: the text is cut as it goes, and a
+// line's number is told where it ends.)
 pub(crate) fn tally(text: &[u8]) -> Counted
     ensures { result.agreed ≤ agreed_in [] (lines_in text.now) }
 {

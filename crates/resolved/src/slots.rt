@@ -13,7 +13,7 @@ use wire::units::ByteOffset;
 
 const MAX_NODES: usize = 0x4000_0000;
 
-// Writes the slots of the first n nodes, whose rows all have entries. Without a branch: the test of the top byte is
+// Writes the slots of the first n nodes, whose rows all have entries: by number, of which a slot is made. Without a branch: the test of the top byte is
 // `is_external` of the row's entry (`top_kind` in proofs/SlotLaws.antt), and both `if`s choose between two numbers.
 fn fill_slots(s: &[u8], first: ByteOffset, n: usize, table: &mut [u32])
     requires { (n ≤ 2 ^ 30) × ((n ≤ length table.old) × (0 < n → first.0 + 8 * n ≤ length s.now)) }

@@ -67,15 +67,9 @@ unmarked_narrow half z two six = go (half % 2 ^ 28) refl
         let both : bit_and (tag_sum half) (payload_sum half) / 2 ^ 29 % 2 ≡ 1 = rw (and_shr (tag_sum half) (payload_sum half) 29, a, b) refl in
         absurd (omega (arith, both))
 
-unmarked_low : (half : ℕ) → half < 2 ^ 32 → (half / 2 + 7 * 2 ^ 27) / 2 ^ 31 % 2 ≡ 0 → half < 9 * 2 ^ 28
-unmarked_low half fits z = omega (arith, z)
-
 -- what is marked in a number of two is marked in one of them
 clear_29 : (low high : ℕ) → low < 2 ^ 32 → Clear 29 (beside low high) → (low / 2 ^ 29 % 2 ≡ 0) × (high / 2 ^ 29 % 2 ≡ 0)
 clear_29 low high fits c = (omega (arith, c.0), omega (arith, c.1))
-
-clear_31 : (low high : ℕ) → low < 2 ^ 32 → Clear 31 (beside low high) → (low / 2 ^ 31 % 2 ≡ 0) × (high / 2 ^ 31 % 2 ≡ 0)
-clear_31 low high fits c = (omega (arith, c.0), omega (arith, c.1))
 
 module _ (pair halves : ℕ) (fits : pair < 2 ^ 64) (half : halves ≡ beside (pair % 2 ^ 32 / 2) (pair / 2 ^ 32 / 2)) where
   abbrev low : ℕ

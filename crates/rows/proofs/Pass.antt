@@ -3,7 +3,7 @@
 --     step_next, step_goes_on, step_stop   what a loop over the nodes does
 --     pass_each, all_pass                  a pass accepts exactly if it has read and judged every node
 --     said_pass                            a pass, by what is said of its values
---     passing_none, -on, -stops, -ends     a loop over the nodes, from its invariant to what it answers
+--     passing_on, passing_stops            a loop over the nodes, from its invariant to what it answers
 -- Assumes nothing.
 use mathlib.Core.Path.{◌≡◌, refl, sym, ◌∙◌}
 use mathlib.Core.Bool.{Bool, true, false}

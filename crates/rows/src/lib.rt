@@ -90,6 +90,20 @@ struct Rows<'a> {
     ghost fit: { IsTrue inside → first.0 + 8 * n ≤ length s.now },
 }
 
+impl<'a> Rows<'a> {
+    fn new(s: &'a [u8], first: ByteOffset, n: usize) -> Self
+        ensures { (result.s.now ≡ s.now) × ((result.first ≡ first) × (result.n ≡ n)) }
+    {
+        let inside = first.0 <= s.len() && n <= (s.len() - first.0) / 8;
+        Rows {
+            s,
+            first,
+            n,
+            inside,
+        }
+    }
+}
+
 impl<'a> Nodes for Rows<'a> {
     ghost count = { λ rows. rows.n };
 
@@ -155,13 +169,14 @@ fn read_from<N: Nodes>(nodes: &N, from: usize, before: usize) -> Result<usize, R
     Ok(externals)
 }
 
-// The quick pass: strip by strip, and plainly what no survey is sure of.
+// The quick pass: strip by strip, and plainly what no survey is sure of. (A `while`: a survey says where its strip ends.)
 #[tactic(auto, using(crate::proofs::Pass::pass_none))]
 fn read_quickly<N: Nodes>(nodes: &N) -> Result<usize, Refused<usize>>
     ensures { shown_pass result ≡ entry_pass (N.read nodes.now) (N.count nodes.now) }
 {
     let mut externals: usize = 0;
     let mut from = 0;
+    // no `for`: each strip ends where its survey says
     while from < nodes.len() {
         let Some((to, more)) = nodes.survey(from) else {
             return read_from(nodes, from, externals);
@@ -177,30 +192,14 @@ fn read_quickly<N: Nodes>(nodes: &N) -> Result<usize, Refused<usize>>
 pub fn read_each(s: &[u8], first: ByteOffset, n: usize) -> Result<usize, Refused<usize>>
     ensures { shown_pass result ≡ entry_pass (row_outcome s.now first.0) n }
 {
-    let inside = false;
-    read_from(
-        &Rows {
-            s,
-            first,
-            n,
-            inside,
-        },
-        0,
-        0,
-    )
+    read_from(&Rows::new(s, first, n), 0, 0)
 }
 
 // The same by the quick pass.
 pub fn read_entries(s: &[u8], first: ByteOffset, n: usize) -> Result<usize, Refused<usize>>
     ensures { shown_pass result ≡ entry_pass (row_outcome s.now first.0) n }
 {
-    let inside = first.0 <= s.len() && n <= (s.len() - first.0) / 8;
-    read_quickly(&Rows {
-        s,
-        first,
-        n,
-        inside,
-    })
+    read_quickly(&Rows::new(s, first, n))
 }
 
 // The same of words that no file holds yet.
@@ -229,7 +228,8 @@ fn single(half: u32) -> u32
 }
 
 // A strip of rows inside the file, with no branch and no early end, so that it compiles to vector code.
-// What it gathers can only show that all is well, and that is all it promises.
+// What it gathers can only show that all is well, and that is all it promises. (By number, since a row's place is made of it; and
+// not one loop with `survey_words`, which takes its rows in pairs: the vectors differ.)
 fn survey_rows(s: &[u8], first: ByteOffset, from: usize, to: usize) -> Option<u32>
     requires { (from ≤ to) × ((to ≤ from + 4096) × (first.0 + 8 * to ≤ length s.now)) }
     ensures { IfSome result (Onward (row_outcome s.now first.0) from to) }
@@ -300,7 +300,8 @@ fn is_clear(pair: u64, bit: u32) -> bool
     pair >> bit & 1 == 0 && pair >> (bit + 32) & 1 == 0
 }
 
-// A strip of 2 n words, as `survey_rows`; the words of its two halves go by in pairs, so that four fill a vector.
+// A strip of 2 n words, as `survey_rows`; the words of its two halves go by in pairs, so that four fill a vector: by number, since
+// a pair is two places.
 fn survey_words(words: &[u64], from: usize, n: usize) -> Option<u32>
     requires { (n ≤ 2048) × (from + n + n ≤ length words.now) }
     ensures { IfSome result (Onward (word_read words.now) from (from + n + n)) }

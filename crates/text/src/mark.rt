@@ -9,5 +9,6 @@ pub fn mark_from(l: &[u8], mark: u8, from: usize) -> usize
     let Some(rest) = l.get(from..) else {
         return from;
     };
-    from + rest.iter().position(|b| *b == mark).unwrap_or(rest.len())
+    let before = rest.iter().position(|b| *b == mark).unwrap_or(rest.len());
+    from + before
 }

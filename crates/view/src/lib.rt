@@ -1,5 +1,5 @@
-// A view of a file: its bytes beside the layout, which is any record. Each reader takes the view apart
-// and calls the reader of the bytes and the layout, so it promises what that one promises. The functions
+// A view of a file: its bytes beside the layout, which is any record. The readers are its
+// methods and call those of the bytes and the layout, so each promises what that one promises. The functions
 // below them take the bytes and the layout, make a view and read through it: their callers see no view.
 #![tactic(auto)]
 

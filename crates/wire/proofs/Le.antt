@@ -87,6 +87,15 @@ le_parts s at m n h =
     let l : length (slice at (at + m) s) ≡ m = length-slice at (at + m) s h ∙ omega arith in
     rw (slice-parts s at m n h, le_append, l)
 
+-- one byte more in front: what a loop from the highest byte down does
+pub le-slice_back : (p t : ℕ) (s : List ℕ) → 0 < p → p ≤ t → t ≤ length s → le (slice (p - 1) t s) ≡ le (slice p t s) * 256 + get_or s (p - 1) 0
+unfolding le
+le-slice_back p t s h k l =
+    let e : suc (p - 1) ≡ p = omega arith in
+    let front : slice (p - 1) t s ≡ get_or s (p - 1) 0 ∷ slice p t s =
+    slice-cons (p - 1) t s 0 (omega arith) l ∙ ap (λ (x : ℕ). get_or s (p - 1) 0 ∷ slice x t s) e in
+    rw front (omega arith)
+
 -- ---- the bytes of a number
 
 pub length-le_bytes : (n x : ℕ) → length (le_bytes n x) ≡ n

@@ -1,7 +1,7 @@
 -- The file by its sections, and its size by its parts. Assumes nothing.
 use mathlib.Core.Path.{◌≡◌}
 use mathlib.Core.List.{List, [], ◌∷◌, ◌++◌, map, append_assoc}
-use Prim.Native.Nat.{ℕ, ◌-◌}
+use Prim.Native.Nat.{ℕ, ◌-◌, ◌≤◌}
 use native.Mathlib.Omega.{arith}
 use lib.ListN.{length, length-append}
 use Rattle.wire.specs.Rows.{rows}
@@ -15,9 +15,13 @@ use Rattle.writer.specs.Inner.{file_size, Fitting, Numbered}
 use Rattle.writer.proofs.Counted.{length-count}
 use Rattle.writer.proofs.Entries.{length-advice}
 use Rattle.writer.proofs.Rows.{length_mapped}
-use Rattle.writer.proofs.Words.{words_written}
+use Rattle.writer.proofs.Words.{externals_few, words_written}
 
 module _ (f : FormatFacts) (p : Parts) (x : ℕ) (fit : Fitting p x) where
+  -- the externals are among the nodes
+  pub few : x ≤ length p.words
+  few = rw fit.external (externals_few p.words)
+
   abbrev head : List ℕ
   head = (f.magic ++ ((p.flags ∷ []) ++ f.version)) ++ (count_bytes (length p.words - x) ++ count_bytes x)
 
@@ -33,7 +37,7 @@ module _ (f : FormatFacts) (p : Parts) (x : ℕ) (fit : Fitting p x) where
   pub length-file : length f.magic ≡ 4 → length f.version ≡ 3 → Numbered p → length (written_file f p) ≡ file_size 8 p x
   length-file magic version numbered =
       let internal = length-count (length p.words - x) (omega (arith, numbered.words)) in
-      let external = length-count x (omega (arith, fit.few, numbered.words)) in
+      let external = length-count x (omega (arith, few, numbered.words)) in
       let roots = length-count (length p.roots) numbered.roots in
       let blocks = length-count (length p.blocks) numbered.blocks in
       let entries = length-count (length p.lengths) numbered.lengths in

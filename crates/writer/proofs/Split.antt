@@ -15,7 +15,6 @@ use Rattle.layout.specs.Scan.{words_rules, externals}
 use Rattle.layout.specs.declared.facts.FormatFacts.{FormatFacts}
 use Rattle.writer.specs.Parts.{Parts}
 use Rattle.writer.specs.Writer.{key_rules, written_file, writer_rules, write_outcome, output_of, output_after}
-use Rattle.writer.proofs.Words.{externals_few}
 use Rattle.writer.specs.Inner.{head_rules, part_rules, room_rules, words_outcome, fit_outcome, file_size, Fitting, Numbered}
 use Rattle.writer.proofs.Sizes.{length-file}
 
@@ -63,7 +62,7 @@ module _ (f : FormatFacts) (p : Parts) where
       let after_head = (none_parts (head_rules f p.flags (length p.words)) _ k.0).1 in
       let after_words = none_parts (words_rules 1 0 p.words) _ after_head in
       let lengths = (none_parts (parts (externals p.words)) keys after_words.1).0 in
-      record { words = after_words.0; few = rw (← k.1) (externals_few p.words); external = sym k.1; keys = equal _ _ lengths.1.1.0; values = equal _ _ lengths.1.1.1.0 }
+      record { words = after_words.0; external = sym k.1; keys = equal _ _ lengths.1.1.0; values = equal _ _ lengths.1.1.1.0 }
     where
       equal : (a b : ℕ) → not (eqb a b) ≡ false → a ≡ b
       equal a b n = eqb-true a b (turned (eqb a b) n)

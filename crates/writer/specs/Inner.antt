@@ -1,6 +1,6 @@
 -- Inner contracts only: the writer's table in segments, one for each stage of the code; sizes; and how a key stands among the earlier ones.
 -- A reader who believes the table of Writer need not read them: proofs/Split.antt shows that they say what the table says.
-use Rattle.std.specs.Prelude.{ℕ, ◌+◌, ◌-◌, ◌*◌, ◌^◌, ◌≤◌, ◌<◌, ◌≡◌, Bool, true, false, not, List, [], ◌∷◌, map, ◌⊎◌, length, ltb, eqb}
+use Rattle.std.specs.Prelude.{ℕ, ◌+◌, ◌-◌, ◌*◌, ◌^◌, ◌<◌, ◌≡◌, Bool, true, false, not, List, [], ◌∷◌, map, ◌⊎◌, length, ltb, eqb}
 use Rattle.wire.specs.Table.{Rule, rule, Outcome, accepted, first_met, checked, NoneMet, ◌>>=◌}
 use Rattle.wire.specs.Refusals.{FLAGS, OVERFLOW, TOO-MANY, ROOM, FORMAT, PARTS}
 use Rattle.wire.specs.Le.{over}
@@ -93,7 +93,6 @@ file_size header p x =
 -- what is known of parts that fit, with so many externals
 pub record Fitting (p : Parts) (x : ℕ) : Type 0 where
   pub words : NoneMet (words_rules 1 0 p.words)
-  pub few : x ≤ length p.words
   pub external : x ≡ externals p.words
   pub keys : length p.keys ≡ 4 * length p.lengths
   pub values : length p.values ≡ sum p.lengths

@@ -1,5 +1,5 @@
 // The whole file: judged, counted, and only then written, so that a refusal leaves the output as it was.
-ghost use Rattle.std.specs.Prelude.{◌≡◌, length};
+ghost use Rattle.std.specs.Prelude.{◌≡◌, ◌≤◌, length};
 ghost use Rattle.writer.specs.Shown.{shown_write, lent_parts};
 ghost use Rattle.writer.specs.Writer.{written_file, write_outcome, output_after};
 ghost use Rattle.writer.specs.Inner.{file_size, Fitting};
@@ -12,6 +12,7 @@ use wire::refusal::Refused;
 
 // Into an output of exactly the file's size.
 fn write_file(f: FormatFacts, parts: &Parts<'_>, externals: usize, out: &mut [u8])
+    requires few { externals ≤ length parts.now.words.now }
     requires fitting { Fitting (lent_parts parts.now) externals }
     requires out_len { length out.old ≡ file_size 8 (lent_parts parts.now) externals }
     ensures { out.new ≡ written_file f (lent_parts parts.now) }

@@ -59,7 +59,8 @@ fn key_standing(keys: &[u64], i: usize, top: usize, key: [u64; 4]) -> Standing
     }
 }
 
-// Each key in turn: ELEMENT, then DUPLICATE of an earlier one, which is searched for.
+// Each key in turn: ELEMENT, then DUPLICATE of an earlier one, which is searched for. (By number: it is the refusal's place, and
+// a key is four numbers of one list.)
 #[tactic(auto, using(crate::proofs::Keys::left_all, crate::proofs::Keys::left_none, crate::proofs::Keys::no_word))]
 fn check_keys(keys: &[u64], lengths: &[u64]) -> Result<(), Refused<usize>>
     requires { length keys.now ≡ 4 * length lengths.now }
@@ -88,7 +89,8 @@ fn check_keys(keys: &[u64], lengths: &[u64]) -> Result<(), Refused<usize>>
     Ok(())
 }
 
-// The same where it is known which key is the first to be an earlier one again.
+// The same where it is known which key is the first to be an earlier one again. (A loop of its own: the one above hands on the
+// highest key so far, and a closure for both would hold that.)
 #[tactic(auto, using(crate::proofs::Keys::left_all, crate::proofs::Keys::left_none, crate::proofs::Keys::no_word))]
 fn check_keys_known(keys: &[u64], lengths: &[u64], twice: usize) -> Result<(), Refused<usize>>
     requires { (length keys.now ≡ 4 * length lengths.now) × FirstTwice keys.now (length lengths.now) twice }
@@ -111,7 +113,9 @@ fn check_keys_known(keys: &[u64], lengths: &[u64], twice: usize) -> Result<(), R
     Ok(())
 }
 
-// The same, whatever is claimed of the keys' order.
+// The same, whatever is claimed of the keys' order. (The number of keys stands for none that is an earlier one: it is met by no
+// turn, where an Option would be taken apart in each. And that keys are four a length is asked by each of these, since lent parts
+// may be any: `check` finds out.)
 pub(crate) fn check_keys_claimed(
     keys: &[u64],
     lengths: &[u64],

@@ -1,4 +1,4 @@
-// The parts of a file, as they are lent.
+// The parts of a file, as C lends them: flat lists.
 #[derive(Clone, Copy)]
 pub struct Parts<'a> {
     pub flags: u8,

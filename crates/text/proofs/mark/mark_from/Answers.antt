@@ -16,4 +16,4 @@ returns c =
     let rest = c.in-Some.rest.now in
     let found = position_from_yields_List (λ b. eqb b a.mark) _ _ c.position.result c.position.ensures.ran (YieldsList-from_slice rest cc) (λ x b q k. search (rules, tests)) in
     let e : rest ≡ drop a.from a.l.now = grind (arith, common_steps) in
-    rw (c.unwrap_or.ensures, found_place a.mark rest _ found, e)
+    rw (c.unwrap_or-before.ensures, found_place a.mark rest _ found, e)

@@ -2,6 +2,7 @@
 use Rattle.std.proofs.Common.{sym, rules}
 use Rattle.std.proofs.lemmas.Result.{err_from_is_err_and}
 use Rattle.writer.specs.Shown.{lent_parts}
+use Rattle.writer.proofs.Sizes.{few}
 use Rattle.writer.proofs.Split.{fitting, stopped, decided, as_it_was, overwritten}
 use Rattle.writer.proofs.file.write_forest_hinted.Goals as goal
 
@@ -14,7 +15,7 @@ pub returns-in_err-externals-clause-out_after : goal.returns-in_err-externals-cl
 returns-in_err-externals-clause-out_after c = as_it_was _ _ _ (stopped _ _ c.args.out.now c.in_err-externals.ensures)
 
 pub size_within-requires : goal.size_within-requires
-size_within-requires c = (fitting c.args.f (lent_parts c.args.parts.now) _ (sym c.in_ok-externals.ensures)).few
+size_within-requires c = few c.args.f _ _ (fitting c.args.f (lent_parts c.args.parts.now) _ (sym c.in_ok-externals.ensures))
 
 pub returns-in_err-size-clause-result_value : goal.returns-in_err-size-clause-result_value
 returns-in_err-size-clause-result_value c =
@@ -26,6 +27,9 @@ pub returns-in_err-size-clause-out_after : goal.returns-in_err-size-clause-out_a
 returns-in_err-size-clause-out_after c =
     as_it_was _ _ _
     (decided _ _ c.args.out.now c.in_ok-externals.ensures (search rules) (search rules) c.size_within.ensures.numbered c.in_err-size.ensures.size)
+
+pub write_file-requires-clause-few : goal.write_file-requires-clause-few
+write_file-requires-clause-few c = few c.args.f _ _ (fitting c.args.f (lent_parts c.args.parts.now) _ (sym c.in_ok-externals.ensures))
 
 pub write_file-requires-clause-fitting : goal.write_file-requires-clause-fitting
 write_file-requires-clause-fitting c = fitting c.args.f (lent_parts c.args.parts.now) _ (sym c.in_ok-externals.ensures)
