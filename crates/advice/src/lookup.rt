@@ -30,8 +30,8 @@ struct Range {
     compared: usize,
 }
 
-// One turn of the halving: below the middle, or above it. Sums of what is selected, and not selected sums: these become
-// jumps, and half of them are guessed wrong.
+// One turn of the halving: below the middle, or above it. What is added is selected, and not the sum: a selected sum becomes a
+// jump, and half of these are guessed wrong.
 fn turn(range: Range, below: bool) -> Range
     requires { (0 < range.size) × (range.low + range.size < 2 ^ 64) × (range.compared < 2 ^ 64 - 1) }
     ensures { result ≡ turned below range }
@@ -127,7 +127,8 @@ fn halve(
     halve_left(s, keys, range, key)
 }
 
-// Whether some values are all elements, or the place of the first that is none: by number, of which that place is made.
+// Whether some values are all elements, or the place of the first that is none: by number, of which that place is
+// made, so that an iterator would be counted beside.
 fn check_elements(s: &[u8], values: Values) -> Result<(), Refused<ByteOffset>>
     requires { values.at.0 + 8 * values.len ≤ length s.now }
     ensures { shown_elements result ≡ elements_outcome s.now values.at.0 values.len }

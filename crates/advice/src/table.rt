@@ -1,5 +1,6 @@
 // The key table by place: the key at a place and the entry of the map there, over any bytes and any table; and how many
-// places are enough to lend for a map. (File and table are two arguments, as in lookup.rt.)
+// places are enough to lend for a map. (File and table are two arguments: a struct would be made for
+// one read and taken apart at once.)
 ghost use Rattle.std.specs.Prelude.{◌≡◌};
 ghost use Rattle.advice.specs.Table.{key_outcome, map_entry_outcome, places_needed};
 ghost use Rattle.advice.specs.Shown.{shown_key, shown_map_entry};

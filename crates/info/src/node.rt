@@ -24,7 +24,8 @@ pub enum Class {
     Other,
 }
 
-// The kind, by its tag: the format's number, which an entry's word holds and C is told (`kind_of` is that number).
+// The kind, by its tag: the format's number, which an entry's word holds; C is told it, and the
+// definition `kind_of` is that number.
 pub fn kind_of(entry: MastNodeEntry) -> u8
     ensures { result ≡ kind_of entry }
 {

@@ -15,7 +15,8 @@ pub enum Claim {
     Repeat(usize),
 }
 
-// Key i; zeros where its four numbers are not all there. (Number by number: of a shared slice std gives no rows of four.)
+// Key i; zeros where its four numbers are not all there. (Number by number: a part made an array by `try_from` would have
+// a failure that cannot be.)
 pub fn key_at(keys: &[u64], i: usize) -> [u64; 4]
     ensures { result ≡ key_at keys.now i }
 {

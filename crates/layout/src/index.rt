@@ -1,5 +1,5 @@
 // Roots and entries by index, over any layout record: anyone may make one, so each reader checks again. (File and record are two
-// arguments here and above: the view, which holds both, is a layer over these readers, a form that is named.)
+// arguments here and above: the view, which holds both, is by its named form a layer over these readers: form-1 of docs/DECISIONS.md.)
 ghost use Rattle.std.specs.Prelude.{◌≡◌};
 ghost use Rattle.layout.specs.Index.{root_outcome, node_outcome};
 ghost use Rattle.rows.specs.Shown.{shown_row};

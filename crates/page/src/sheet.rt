@@ -10,8 +10,8 @@ use text::fill::write_filled;
 use wire::refusal::{Refusal, Refused, refusal_number};
 use wire::units::ByteOffset;
 
-// The page of a layout and the end of its map. The two texts differ in the line of the node hashes: a hole
-// takes a number, and `none` is none.
+// The page of a layout and the end of its map. The two texts differ in the line of the node hashes: one text
+// would need a hole that takes no number.
 pub fn write_page(l: ForestLayout, end: ByteOffset, out: &mut [u8]) -> Result<usize, Refused<usize>>
     ensures result_value { shown_text result ≡ text_outcome out.old (page_text l end.0) }
     ensures out_after { out.new ≡ with_text out.old (page_text l end.0) }

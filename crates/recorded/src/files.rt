@@ -67,6 +67,7 @@ pub(crate) fn entry_agrees(case: &Case, lent: &[u64]) -> bool
     case.is_told(r, place, &answer, lent)
 }
 
+// (The three checks differ in the call alone; a closure for it would need clauses of its own, and be longer than these.)
 pub(crate) fn children_agrees(case: &Case, lent: &[u64]) -> bool
     ensures { IsTrue result → Records case.now 8 lent.now }
 {

@@ -42,7 +42,8 @@ fn print_section(rt: &impl Print, section: &[u8]) -> io::Result<u64> {
     Ok(counted.agreed)
 }
 
-// What comes before the first `@` is no section. (A `while`: the text is cut as it goes.)
+// What comes before the first `@` is no section. (A `while`: `split` has one piece more, past the
+// last mark.)
 fn print_all(rt: &impl Print, text: &[u8]) -> io::Result<()> {
     let mut agreed: u64 = 0;
     let (_, mut rest) = cut(text, b'@');
@@ -56,7 +57,7 @@ fn print_all(rt: &impl Print, text: &[u8]) -> io::Result<()> {
 
 // Reads until the buffer is full or the input ends, and answers how many bytes it put at the start of the
 // buffer. An error is the input's own: what came before it stands at the buffer's start. (`read_exact` refuses a
-// shorter input; `mast_layout` has this loop with more promised, and the two programs share no crate that reads.)
+// shorter input; `mast_layout` has this loop with more promised, and a crate of both for nine lines is no plainer.)
 fn read_full<R: Read>(input: &mut R, buf: &mut [u8]) -> io::Result<usize>
     ensures bound { ReadsAtMost result buf.new }
     ensures bytes { IfOk result (λ n. Consumes (R.remaining input.old) (R.remaining input.new) (take n buf.new)) }

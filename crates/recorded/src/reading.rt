@@ -37,7 +37,7 @@ fn first_number(l: &[u8]) -> Option<(u64, &[u8])>
 }
 
 // Puts the numbers of a text at the start of `out`, in its width, and answers how many these are; nothing where one
-// is none or does not fit, or there are too many. (Counted by hand: the text is cut as it goes, and a place filled each time.)
+// is none or does not fit, or there are too many. (Counted by hand: `split` has one piece more, past the last mark, which is no number.)
 pub(crate) fn numbers_of<T: TryFrom<u64>>(l: &[u8], out: &mut [T]) -> Option<usize>
 where
     T::Error: Drop,

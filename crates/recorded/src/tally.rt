@@ -13,8 +13,8 @@ pub(crate) struct Counted {
     pub(crate) lost: Option<u64>,
 }
 
-// It ends at the first case that does not agree, or at a file that cannot be read. (A `while`: the text is cut as it goes, and a
-// line's number is told where it ends.)
+// It ends at the first case that does not agree, or at a file that cannot be read. (A `while`: `split` has one
+// piece more, past the last mark, which is no line.)
 pub(crate) fn tally(text: &[u8]) -> Counted
     ensures { result.agreed ≤ agreed_in [] (lines_in text.now) }
 {

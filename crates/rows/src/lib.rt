@@ -228,8 +228,8 @@ fn single(half: u32) -> u32
 }
 
 // A strip of rows inside the file, with no branch and no early end, so that it compiles to vector code.
-// What it gathers can only show that all is well, and that is all it promises. (By number, since a row's place is made of it; and
-// not one loop with `survey_words`, which takes its rows in pairs: the vectors differ.)
+// What it gathers can only show that all is well, and that is all it promises. (By number: the loop that was measured
+// as vector code; and not one loop with `survey_words`, which takes its rows in pairs: the vectors differ.)
 fn survey_rows(s: &[u8], first: ByteOffset, from: usize, to: usize) -> Option<u32>
     requires { (from ≤ to) × ((to ≤ from + 4096) × (first.0 + 8 * to ≤ length s.now)) }
     ensures { IfSome result (Onward (row_outcome s.now first.0) from to) }

@@ -20,8 +20,8 @@ fn digit_count(n: usize) -> usize
     n.checked_ilog10().unwrap_or(0) as usize + 1
 }
 
-// Stores a number's digits from `at` on, and answers the place after them. The last digit is stored first: by place, since
-// a proof knows no byte of what is written through an iterator over a part.
+// Stores a number's digits from `at` on, and answers the place after them. The last digit is stored first: it goes
+// by place, from the end back.
 fn put_decimal(out: &mut [u8], at: usize, n: usize) -> usize
     requires { at + length (decimal n) ≤ length out.old }
     ensures value { result ≡ at + length (decimal n) }

@@ -16,7 +16,8 @@ use wire::number::read_u64;
 use wire::refusal::{Refusal, Refused};
 use wire::units::ByteOffset;
 
-// The tag is above the payload, and a pair is two ids below ID_LIMIT. (info's own two are private: what it promises are entries.)
+// The tag is above the payload, and a pair is two ids below ID_LIMIT. (The format's two numbers, as in info:
+// to read them there would be no plainer.)
 const TAG_UNIT: u64 = 0x1000_0000_0000_0000;
 
 const ID_LIMIT: u64 = 0x4000_0000;

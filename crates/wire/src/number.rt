@@ -55,7 +55,7 @@ pub fn u32_at(s: &[u8], at: ByteOffset) -> u64
     number_at::<4>(s, at)
 }
 
-// The same of 8 bytes.
+// The same of 8 bytes, as `u32_at`.
 pub fn u64_at(s: &[u8], at: ByteOffset) -> u64
     ensures { result ≡ number_at 8 s.now at.0 }
 {
@@ -80,14 +80,14 @@ fn read_number<const N: usize>(
     Ok((number_in(&s[at.0..at.0 + N]), Cursor { at: next }))
 }
 
-// The same of 4 bytes.
+// The same of 4 bytes, as `u32_at`.
 pub fn read_u32(s: &[u8], at: ByteOffset) -> Result<(u64, Cursor), Refused<ByteOffset>>
     ensures { shown_read result ≡ number_outcome 4 s.now at.0 }
 {
     read_number::<4>(s, at)
 }
 
-// The same of 8 bytes.
+// The same of 8 bytes, as `u32_at`.
 pub fn read_u64(s: &[u8], at: ByteOffset) -> Result<(u64, Cursor), Refused<ByteOffset>>
     ensures { shown_read result ≡ number_outcome 8 s.now at.0 }
 {

@@ -83,8 +83,8 @@ fn write_entry(key: &[u64], values: &[u64], part: &mut [u8])
     put_rows::<8, _, _>(values, |x| x, rows);
 }
 
-// The entries of the map, each into its own part. (That keys and values fit their lengths is asked here and above, since lent
-// parts may be any: a struct of such three would be made for this alone.)
+// The entries of the map, each into its own part. (That keys and values fit their lengths is asked here and in `write_map`, since
+// lent parts may be any: a struct of the three lists would serve these two alone.)
 #[tactic(auto, using(crate::proofs::Entries::entry_room, crate::proofs::Entries::values_there))]
 fn write_entries(keys: &[u64], lengths: &[u64], values: &[u64], part: &mut [u8])
     requires keys_len { (length keys.now ≡ 4 * length lengths.now) × (length values.now ≡ sum lengths.now) }

@@ -60,7 +60,7 @@ fn key_standing(keys: &[u64], i: usize, top: usize, key: [u64; 4]) -> Standing
 }
 
 // Each key in turn: ELEMENT, then DUPLICATE of an earlier one, which is searched for. (By number: it is the refusal's place, and
-// a key is four numbers of one list.)
+// keys are four numbers each of one list, so that an iterator would be counted beside.)
 #[tactic(auto, using(crate::proofs::Keys::left_all, crate::proofs::Keys::left_none, crate::proofs::Keys::no_word))]
 fn check_keys(keys: &[u64], lengths: &[u64]) -> Result<(), Refused<usize>>
     requires { length keys.now ≡ 4 * length lengths.now }
@@ -90,7 +90,7 @@ fn check_keys(keys: &[u64], lengths: &[u64]) -> Result<(), Refused<usize>>
 }
 
 // The same where it is known which key is the first to be an earlier one again. (A loop of its own: the one above hands on the
-// highest key so far, and a closure for both would hold that.)
+// highest key so far; a closure for both would carry and change it, which is no plainer.)
 #[tactic(auto, using(crate::proofs::Keys::left_all, crate::proofs::Keys::left_none, crate::proofs::Keys::no_word))]
 fn check_keys_known(keys: &[u64], lengths: &[u64], twice: usize) -> Result<(), Refused<usize>>
     requires { (length keys.now ≡ 4 * length lengths.now) × FirstTwice keys.now (length lengths.now) twice }
@@ -113,8 +113,8 @@ fn check_keys_known(keys: &[u64], lengths: &[u64], twice: usize) -> Result<(), R
     Ok(())
 }
 
-// The same, whatever is claimed of the keys' order. (The number of keys stands for none that is an earlier one: it is met by no
-// turn, where an Option would be taken apart in each. And that keys are four a length is asked by each of these, since lent parts
+// The same, whatever is claimed of the keys' order. (Where there is none the number of keys stands for it, which no turn meets and
+// `FirstTwice` allows: an Option would be compared whole in each turn. And that keys are four a length is asked by each of these, since lent parts
 // may be any: `check` finds out.)
 pub(crate) fn check_keys_claimed(
     keys: &[u64],
