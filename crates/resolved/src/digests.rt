@@ -39,7 +39,8 @@ fn digest_at(
     Ok(word)
 }
 
-// The digest of a node of a kind in its slot.
+// The digest of a node of a kind in its slot. Each section has a call of its own: with one call, after the section was
+// chosen, a digest took 1.04 of its time.
 fn digest_in(
     s: &[u8],
     layout: ForestLayout,
@@ -49,12 +50,10 @@ fn digest_in(
 ) -> Result<[u64; 4], Refused<usize>>
     ensures { shown_digest result ≡ digest_in s.now index slot.0 (section_of layout external) }
 {
-    let section = if external {
-        Some(layout.external_digest_offset)
-    } else {
-        layout.node_hash_offset
-    };
-    let Some(section) = section else {
+    if external {
+        return digest_at(s, index, layout.external_digest_offset, slot);
+    }
+    let Some(section) = layout.node_hash_offset else {
         return Err(Refused {
             why: Refusal::NoHash,
             at: index,
