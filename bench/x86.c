@@ -23,19 +23,9 @@ u64 veka_raw_write(const u8 *marks, u64 max_nodes, u8 flags, const u32 *roots, u
                    u64 keys_len, const u64 *lengths, u64 lengths_len, const u64 *values, u64 values_len, const u64 *order, u64 order_len,
                    u8 *out, u64 out_len, u64 *size, u64 *place);
 
-// The archive's two outside names, byte by byte.
+// The archive's only outside name. No accepted input reaches it.
 void *memset(void *to, int x, u64 n) {
     for (u64 i = 0; i < n; i++) ((volatile u8 *)to)[i] = (u8)x;
-    return to;
-}
-
-void *memmove(void *to, const void *from, u64 n) {
-    volatile u8 *t = to;
-    const volatile u8 *f = from;
-    if (t <= f)
-        for (u64 i = 0; i < n; i++) t[i] = f[i];
-    else
-        for (u64 i = n; i > 0; i--) t[i - 1] = f[i - 1];
     return to;
 }
 

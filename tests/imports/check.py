@@ -96,9 +96,9 @@ def main():
             path.write_text(without(path.read_text(), drops))
         code = body(bare(path))
         named.update(WORD.findall(code))
-        # a function's attribute names a law by its whole path
+        # a function's attribute names a law by its whole path, of which the last word is its name
         for attribute in re.findall(r'#\[tactic\((.*?)\)\]', code, re.S):
-            named.update(re.findall(r'\w+', attribute))
+            named.update(path.split('::')[-1] for path in re.findall(r"[\w:'-]+", attribute))
     for path in (ROOT / 'docs').rglob('*.md'):
         named.update(re.findall(r'[^\s`(),;:|]+', path.read_text()))
     for path in files:

@@ -3,7 +3,8 @@
 allows one answer (NAME_answers; or, where no plain result is promised, NAME_asks with NAME_one or NAME_leaves), and for all memory that it is lent to
 write to that what it leaves is one (NAME_leaves..). NAME_crosses says it of an exported function's number, of its answer where it has one, and
 of its place. Main names every page. A static library has no page: its functions promise what a library's of their names do (tools/signatures.py).
-Methods count as functions do, and what stands in a module that is not `pub` is not public. Fails with what is missing.
+Methods count as functions do. What stands in a module that is not `pub`, and from which the crate's root brings nothing out by `pub use`, is not
+public. Fails with what is missing.
 """
 import re
 import sys
@@ -22,7 +23,8 @@ def main():
         title = 'Of' + crate.name.capitalize()
         page = PAGES / (title + '.antt')
         declared = re.findall(r'^  pub (\w+) :', page.read_text(), re.M) if page.exists() else []
-        inner = set(re.findall(r'^mod (\w+);', (crate / 'src/lib.rt').read_text(), re.M))
+        root = (crate / 'src/lib.rt').read_text()
+        inner = set(re.findall(r'^mod (\w+);', root, re.M)) - set(re.findall(r'^pub use (?:crate::|self::)?(\w+)', root, re.M))
         names = []
         for path in sorted(crate.glob('src/**/*.rt')):
             if path.relative_to(crate / 'src').parts[0].removesuffix('.rt') in inner:

@@ -161,10 +161,10 @@ def contracts(text):
 
 
 def public_functions():
-    """Of the modules that are `pub`. A parameter's name hides an import's."""
+    """Of the modules that are `pub`, or from which the root brings something out. A parameter's name hides an import's."""
     for path in sorted(ROOT.glob("crates/*/src/*.rt")):
-        root = path.with_name("lib.rt")
-        if root.exists() and f"\nmod {path.stem};" in root.read_text():
+        root = path.with_name("lib.rt").read_text() if path.with_name("lib.rt").exists() else ""
+        if f"\nmod {path.stem};" in root and not re.search(rf"^pub use (?:crate::|self::)?{path.stem}\b", root, re.M):
             continue
         text = path.read_text()
         names, files = imports(text)

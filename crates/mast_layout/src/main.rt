@@ -4,12 +4,13 @@
 //
 // The five words replace the stand-in format facts: magic in 8 hexadecimal digits, version in 6, the two
 // masks in 2 each, the node maximum in decimal. Wrong words give one line on standard error, and nothing
-// is read. What is said, and where, is the proved function `program` of the crate page: this file moves bytes.
-// The status is 0, and 1 where what is said could not be written.
+// is read. What is said, and where, is the proved function `program` of the crate page: this file moves bytes,
+// into rooms that `read_words` and `read_input` fix. The status is 0, and 1 where what is said could not be written.
 #![tactic(auto)]
 
-ghost use Rattle.std.specs.Prelude.{◌≡◌, ℕ, ◌<◌, ◌≤◌, true, false, length, take, Ok, IfOk, OnErr};
+ghost use Rattle.std.specs.Prelude.{◌≡◌, ℕ, ◌+◌, ◌*◌, ◌<◌, ◌≤◌, true, false, length, take, Ok, IfOk, OnErr};
 ghost use Rattle.std.specs.Io.KnownBytes.{Consumes, IsAtEnd};
+ghost use Rattle.page.specs.Answer.{most};
 
 use page::program::{Said, program, words_wrong};
 use std::env::FillError;
@@ -21,9 +22,11 @@ use std::rt::Env;
 const WORD: usize = 64;
 
 // Puts the words of the command into the buffer, each with a zero after it, and answers how many bytes these
-// are. It stops where there is no room for one more word of 64 bytes. A longer one is put as an empty one,
+// are. It stops where there is no room for one more word of 64 bytes: the buffer has room for six with their zeros, so that
+// more than five are seen to be more. A longer one is put as an empty one,
 // which is wrong. (A `while`: the room ends it, or the words, and neither is counted beforehand.)
 fn read_words(env: &impl Env, buf: &mut [u8]) -> usize
+    requires { length buf.old ≡ 6 * (64 + 1) }
     ensures { result ≤ length buf.new }
 {
     let mut at: usize = 0;
@@ -44,9 +47,11 @@ fn read_words(env: &impl Env, buf: &mut [u8]) -> usize
 }
 
 // Reads the input to its end, or until the room is full, and answers how many bytes these are; or nothing,
-// where it is not wanted. An error is the input's own: what came before it stands at the room's start. (std's
-// `read_exact` refuses a shorter input, and `read_to_end` takes a `Vec`.)
+// where it is not wanted. The room is for a byte more than is taken, so that a longer input is seen to be longer. An error is
+// the input's own: what came before it stands at the room's start. (std's `read_exact` refuses a shorter input, and
+// `read_to_end` takes a `Vec`.)
 fn read_input<R: Read>(input: &mut R, buf: &mut [u8], unwanted: bool) -> io::Result<usize>
+    requires { (most < length buf.old) × (length buf.old ≤ most + 1) }
     ensures bound { IfOk result (λ n. n ≤ length buf.new) }
     ensures bytes { IfOk result (λ n. Consumes (R.remaining input.old) (R.remaining input.new) (take n buf.new)) }
     ensures end { IfOk result (λ n. unwanted ≡ false → n < length buf.new → IsAtEnd (R.remaining input.new)) }
@@ -83,8 +88,6 @@ fn say_unread(rt: &(impl Eprint + AllocGlobal), error: io::Error) -> io::Result<
 }
 
 fn main(rt: HostRuntime) -> io::Result<()> {
-    // Room for six words with their zeros, so that more than five are seen to be more; for a byte more of the file than is taken; and for
-    // any text.
     let mut words = [0u8; 390];
     let mut file = [0u8; 65537];
     let mut out = [0u8; 512];

@@ -3,23 +3,23 @@
 use mathlib.Core.Path.{◌≡◌, refl, ap, ◌∙◌}
 use mathlib.Core.Bool.{Bool, true, false, ◌||◌}
 use mathlib.Core.List.{List, [], ◌∷◌}
-use Prim.Native.Nat.{ℕ, ◌+◌, ◌-◌, ◌^◌, ◌≤◌, ◌<◌}
+use Prim.Native.Nat.{ℕ, ◌+◌, ◌-◌, ◌*◌, ◌^◌, ◌≤◌, ◌<◌}
 use native.Mathlib.Omega.{arith}
-use borrow.Author.Tests.{le-ltb, le-leb, lt-leb}
-use lib.ListN.{get_or}
-use Rattle.wire.specs.Table.{Outcome, At, rule, refused, accepted, pick, first_met, checked, ◌>>=◌}
-use Rattle.wire.specs.Refusals.{OVERFLOW, PAYLOAD, INDEX}
-use Rattle.wire.specs.Le.{le_at, short_rule, number_outcome}
-use Rattle.wire.proofs.Stages.{in_turn}
-use Rattle.wire.proofs.Tables.{replaced}
-use Rattle.info.proofs.Cases.{moved, replaced_moved}
+use borrow.Author.Tests.{lt-ltb, le-ltb, ltb-true, ltb-false, le-leb, lt-leb}
+use lib.Dec.{ltb}
+use lib.ListN.{length, get_or}
+use Rattle.wire.specs.Table.{Outcome, rule, refused, accepted, pick, first_met, checked, ◌>>=◌}
+use Rattle.wire.specs.Refusals.{SHORT, OVERFLOW, PAYLOAD, INDEX}
+use Rattle.wire.specs.Le.{is_short}
 use Rattle.info.specs.Node.{numbers_of, make_outcome}
 use Rattle.info.specs.Entry.{tag_of, payload_of, entry_of, bad_tag, bad_payload, decode_rules, decode_outcome, encode_outcome}
 use Rattle.info.specs.declared.MastNodeEntry.{MastNodeEntry}
 use Rattle.info.specs.declared.MastNodeEntry.TheVariants.{Join, Split, Loop, Block, Call, SysCall, External}
 use Rattle.info.proofs.NodeLaws.{each_tag, kind_is_tag, numbers_single, numbers_none}
-use Rattle.rows.specs.Rows.{row_at, row_over, row_rules, row_outcome}
-use Rattle.rows.proofs.RowLaws.{row_over_lem}
+use Rattle.std.specs.Prelude.{Option, Some, None}
+use Rattle.wire.specs.declared.units.ByteOffset.{ByteOffset}
+use Rattle.rows.specs.Rows.{row_at, row_over, row_place, row_word, row_rules, row_outcome}
+use Rattle.rows.proofs.RowLaws.{row_over_lem, inside_row}
 use Rattle.layout.proofs.IndexLaws.{no_node, node_row}
 use Rattle.crossing.specs.Arrays.{layout_of, entry_row}
 use Rattle.vekalumist.specs.Answers.{laid}
@@ -46,10 +46,19 @@ pub ruleset rows = (bare_row, single_row)
 
 -- ---- an entry by index, over twelve numbers
 
-laid_then : {A B : Type 0} (row : B → List ℕ) (m : Outcome A) (k : A → Outcome B) → laid row (m >>= k) ≡ (m >>= (λ x. laid row (k x)))
-unfolding ◌>>=◌
-laid_then row (refused n p) k = refl
-laid_then row (accepted v) k = refl
+not_le : (a b : ℕ) → (a + 8 ≤ b → ⊥) → b < a + 8
+not_le a b h = go (ltb b (a + 8)) refl
+  where
+    go : (t : Bool) → ltb b (a + 8) ≡ t → b < a + 8
+    go true e = ltb-true b (a + 8) e
+    go false e = absurd (h (ltb-false b (a + 8) e))
+
+pub not_over : (first i : ℕ) → (row_place first 8 i ≡ None → ⊥) → row_over first 8 i ≡ false
+not_over first i placed = go (row_over first 8 i) placed
+  where
+    go : (t : Bool) → (pick {A = Option ByteOffset} t None (Some (record { 0 = row_at first 8 i })) ≡ None → ⊥) → t ≡ false
+    go true k = absurd (k refl)
+    go false k = refl
 
 module _ (s row : List ℕ) (i : ℕ) where
   abbrev first : ℕ
@@ -70,14 +79,17 @@ module _ (s row : List ℕ) (i : ℕ) where
     pub past_end : row_over first 8 i ≡ true → entry_call s row i ≡ refused OVERFLOW i
     past_end over = of_row ∙ ap (laid entry_row) (row_over_lem s first i over)
 
-    -- the word there, whose refusal is told at the index, and what it decodes to
-    pub word_stages : row_over first 8 i ≡ false → entry_call s row i ≡ (moved i (number_outcome 8 s at) >>= (λ w. laid entry_row (decode_outcome i w.value)))
-    unfolding first_met row_outcome row_rules number_outcome decode_outcome
-    word_stages below =
-        let short = short_rule s at 8 ∷ [] in
-        let there : At ℕ = record { value = le_at s at 8; next = at + 8 } in
-        rw (of_row, below, ← replaced_moved i short there)
-        (ap (laid entry_row) (in_turn (replaced i short) there (λ w. decode_rules i w.value) (λ w. entry_of w.value) _ (λ w. refl)) ∙ laid_then entry_row _ _)
+    short_row : row_over first 8 i ≡ false → is_short s at 8 ≡ true → row_outcome s first i ≡ refused SHORT i
+    unfolding first_met row_outcome row_rules
+    short_row below cut = rw (below, cut)
+
+    pub past_file : row_over first 8 i ≡ false → (first + 8 * (i + 1) ≤ length s → ⊥) → entry_call s row i ≡ refused SHORT i
+    past_file below out =
+        of_row ∙ ap (laid entry_row) (short_row below (lt-ltb (length s) (first + 8 * i + 8) (not_le (first + 8 * i) (length s) (λ k. out (omega arith)))))
+
+    -- a row inside the file says what its word decodes to
+    pub word_there : length s < 2 ^ 64 → first + 8 * (i + 1) ≤ length s → entry_call s row i ≡ laid entry_row (decode_outcome i (row_word s first i))
+    word_there fits inside = of_row ∙ ap (laid entry_row) (inside_row s first i (i + 1) inside fits (omega arith))
 
 -- ---- the entry of a kind and two numbers
 

@@ -1,6 +1,7 @@
 // Entries: of a word, to a word, and of a node by its index.
-ghost use Rattle.std.specs.Prelude.{◌≡◌, OnErr};
+ghost use Rattle.std.specs.Prelude.{◌≡◌, ◌↔◌, ◌+◌, ◌*◌, ◌≤◌, length, IsTrue, OnErr};
 ghost use Rattle.info.specs.Entry.{decode_outcome};
+ghost use Rattle.wire.specs.Le.{le_at};
 ghost use Rattle.wire.specs.Shown.{shown_by};
 ghost use Rattle.crossing.specs.Arrays.{entry_row};
 ghost use Rattle.vekalumist.specs.Answers.{number_in, answered, placed, laid};
@@ -8,11 +9,9 @@ ghost use Rattle.vekalumist.specs.Inner.{number_of_entry, entry_of_kind};
 ghost use Rattle.vekalumist.specs.Calls.{decode_call, encode_call, entry_call};
 
 use crate::answer::tell;
-use crossing::entry_row;
 use info::node::make_entry;
-use info::{MastNodeEntry, decode_entry, encode_entry};
+use info::{MastNodeEntry, encode_entry};
 use rows::row_place;
-use wire::number::read_u64;
 use wire::refusal::{Refusal, Refused};
 use wire::units::ByteOffset;
 
@@ -30,7 +29,7 @@ pub fn veka_decode_entry(word: u64, entry: &mut [u64; 3], place: &mut u64) -> u6
     ensures after { entry.new ≡ answered entry.old (decode_call word) }
     ensures place_after { place.new ≡ placed place.old (decode_call word) }
 {
-    tell(decode_entry(word).map(entry_row), entry, place)
+    tell(store_word(word, 0, entry), &mut (), place)
 }
 
 // A number of an entry.
@@ -74,7 +73,7 @@ pub fn veka_encode_entry(entry: &[u64; 3], word: &mut u64, place: &mut u64) -> u
 }
 
 // Stores the kind and two numbers of a word; or TAG or PAYLOAD at i, and nothing is stored. It is what decoding says, but entries are asked for
-// one by one: with a `MastNodeEntry` on the way (`read_node_entry_at(..).map(entry_row)`) each took 1.2 to 1.5 of its time, as an array in
+// one by one: with a `MastNodeEntry` on the way (`decode_entry(..).map(entry_row)`) each took 1.2 to 1.5 of its time, as an array in
 // the `Ok` 1.12.
 #[tactic(auto, using(crate::proofs::EntryLaws::rows), unfolding(wire::specs::Table::first_met, info::specs::Entry::decode_outcome, info::specs::Entry::decode_rules, info::specs::Entry::entry_of, info::specs::Entry::bad_tag, info::specs::Entry::bad_payload))]
 fn store_word(word: u64, i: usize, entry: &mut [u64; 3]) -> Result<(), Refused<usize>>
@@ -107,7 +106,34 @@ fn store_word(word: u64, i: usize, entry: &mut [u64; 3]) -> Result<(), Refused<u
     Ok(())
 }
 
-// The same of a node's word. Of the layout two numbers are read: how many nodes there are, and where their entries start.
+// Whether row i of the entries from `first` on lies in the file. What is left behind `first` is divided, so that nothing is too large.
+fn row_inside(s: &[u8], first: usize, i: usize) -> bool
+    ensures { IsTrue result ↔ first + 8 * (i + 1) ≤ length s.now }
+{
+    first <= s.len() && i < (s.len() - first) / 8
+}
+
+// The number of the 8 bytes at a place that are all there, which are not looked for again.
+#[tactic(auto, using(wire::proofs::Numbers::eight_bytes))]
+fn word_inside(s: &[u8], at: usize) -> u64
+    requires { at + 8 ≤ length s.now }
+    ensures { result ≡ le_at s.now at 8 }
+{
+    u64::from_le_bytes([
+        s[at],
+        s[at + 1],
+        s[at + 2],
+        s[at + 3],
+        s[at + 4],
+        s[at + 5],
+        s[at + 6],
+        s[at + 7],
+    ])
+}
+
+// The same of a node's word. Of the layout two numbers are read: how many nodes there are, and where their entries start. That the row lies
+// in the file is asked by itself, and why it does not only then: with a place, a number read there and the refusals of both on the way
+// (`row_place`, `read_u64`) an entry asked for in turn took 1.26 to 1.31 of its time.
 fn store_node(
     s: &[u8],
     layout: &[u64; 12],
@@ -123,14 +149,20 @@ fn store_node(
             at: index,
         });
     }
-    let Some(at) = row_place(ByteOffset(layout[7] as usize), 8, index) else {
+    let first = layout[7] as usize;
+    if row_inside(s, first, index) {
+        return store_word(word_inside(s, first + 8 * index), index, entry);
+    }
+    if row_place(ByteOffset(first), 8, index).is_none() {
         return Err(Refused {
             why: Refusal::Overflow,
             at: index,
         });
-    };
-    let (word, _) = read_u64(s, at).map_err(|refused| refused.told_at(index))?;
-    store_word(word, index, entry)
+    }
+    Err(Refused {
+        why: Refusal::Short,
+        at: index,
+    })
 }
 
 // The entry of a node.

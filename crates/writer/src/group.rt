@@ -6,7 +6,7 @@ ghost use Rattle.info.specs.Entry.{canonical};
 ghost use Rattle.writer.specs.Writer.{sum, advice_bytes};
 
 use crate::parts::Parts;
-use crate::section::{put_count, put_rows};
+use crate::section::{put_bytes, put_count, put_rows};
 use info::canonical_word;
 use layout::facts::FormatFacts;
 use wire::count::shortest_len;
@@ -56,7 +56,7 @@ pub(crate) fn write_blocks(blocks: &[u8], part: &mut [u8])
 {
     let (count, bytes) = part.split_at_mut(shortest_len(blocks.len() as u64));
     put_count(blocks.len(), count);
-    bytes.copy_from_slice(blocks);
+    put_bytes(blocks, bytes);
 }
 
 // Entries in their written form, external digests, hashes.
@@ -67,8 +67,8 @@ pub(crate) fn write_nodes(parts: &Parts<'_>, part: &mut [u8])
     let (entries, digests) = part.split_at_mut(8 * parts.words.len());
     let (external, hashes) = digests.split_at_mut(parts.external.len());
     put_rows::<8, _, _>(parts.words, canonical_word, entries);
-    external.copy_from_slice(parts.external);
-    hashes.copy_from_slice(parts.hashes);
+    put_bytes(parts.external, external);
+    put_bytes(parts.hashes, hashes);
 }
 
 // One entry of the map: its key, the number of its values, and these.

@@ -17,6 +17,17 @@ pub(crate) fn put_count(v: usize, part: &mut [u8])
     let _ = write_count(part, ByteOffset(0), v as u64);
 }
 
+// Bytes as they are. (By a loop: `copy_from_slice` of a length that is not known is a call of memmove, a name that the archive
+// would need from outside.)
+pub(crate) fn put_bytes(bytes: &[u8], part: &mut [u8])
+    requires { length part.old ≡ length bytes.now }
+    ensures { part.new ≡ bytes.now }
+{
+    for (i, &byte) in bytes.iter().enumerate() {
+        part[i] = byte;
+    }
+}
+
 // A row of N bytes for each item: the number that is made of it, lowest byte first.
 pub(crate) fn put_rows<const N: usize, T: Copy, F: Fn(T) -> u64>(
     items: &[T],
