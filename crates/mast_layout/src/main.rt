@@ -23,8 +23,8 @@ const WORD: usize = 64;
 
 // Puts the words of the command into the buffer, each with a zero after it, and answers how many bytes these
 // are. It stops where there is no room for one more word of 64 bytes: the buffer has room for six with their zeros, so that
-// more than five are seen to be more. A longer one is put as an empty one,
-// which is wrong. (A `while`: the room ends it, or the words, and neither is counted beforehand.)
+// more than five are seen to be more. A longer word is put as an
+// empty one, which is wrong. (A `while`: the room ends it, or the words, and neither is counted beforehand.)
 fn read_words(env: &impl Env, buf: &mut [u8]) -> usize
     requires { length buf.old ≡ 6 * (64 + 1) }
     ensures { result ≤ length buf.new }

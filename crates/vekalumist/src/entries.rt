@@ -73,7 +73,7 @@ pub fn veka_encode_entry(entry: &[u64; 3], word: &mut u64, place: &mut u64) -> u
 }
 
 // Stores the kind and two numbers of a word; or TAG or PAYLOAD at i, and nothing is stored. It is what decoding says, but entries are asked for
-// one by one: with a `MastNodeEntry` on the way (`decode_entry(..).map(entry_row)`) each took 1.2 to 1.5 of its time, as an array in
+// one by one: with a `MastNodeEntry` on the way (`read_node_entry_at(..).map(entry_row)`) each took 1.2 to 1.5 of its time, as an array in
 // the `Ok` 1.12.
 #[tactic(auto, using(crate::proofs::EntryLaws::rows), unfolding(wire::specs::Table::first_met, info::specs::Entry::decode_outcome, info::specs::Entry::decode_rules, info::specs::Entry::entry_of, info::specs::Entry::bad_tag, info::specs::Entry::bad_payload))]
 fn store_word(word: u64, i: usize, entry: &mut [u64; 3]) -> Result<(), Refused<usize>>
@@ -133,7 +133,7 @@ fn word_inside(s: &[u8], at: usize) -> u64
 
 // The same of a node's word. Of the layout two numbers are read: how many nodes there are, and where their entries start. That the row lies
 // in the file is asked by itself, and why it does not only then: with a place, a number read there and the refusals of both on the way
-// (`row_place`, `read_u64`) an entry asked for in turn took 1.26 to 1.31 of its time.
+// (`row_place`, `read_u64`) an entry asked for in turn took a sixth to a quarter more.
 fn store_node(
     s: &[u8],
     layout: &[u64; 12],
